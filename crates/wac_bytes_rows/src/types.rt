@@ -2,7 +2,7 @@
 //! `record F=V ..`, `variant C=V ..`, `tuple V ..`, `flags NAME ..`, `enum NAME ..`, `func P=V .. -> V`, `async P=V .. -> V`, or
 //! a primitive type. `_` stands for no type.
 
-use crate::words::{number_of, option_of, owned, primitive_of, value_of};
+use crate::words::{length_of, number_of, option_of, owned, primitive_of, value_of};
 use anyhow::Result;
 use std::alloc::{AllocError, Global};
 use wac_graph_bytes::{Case, DefinedType, Param, ValueType};
@@ -68,7 +68,7 @@ fn small_of(words: &[&str]) -> Result<DefinedType> {
     Ok(match word_at(words, 0) {
         "list" => DefinedType::List(value_of(first)?),
         "option" => DefinedType::Option(value_of(first)?),
-        "fixed" => DefinedType::FixedSizeList(value_of(first)?, number_of(second)?),
+        "fixed" => DefinedType::FixedSizeList(value_of(first)?, length_of(second)?),
         "result" => DefinedType::Result(option_of(first)?, option_of(second)?),
         "own" => DefinedType::Own(number_of(first)?),
         "borrow" => DefinedType::Borrow(number_of(first)?),

@@ -28,7 +28,12 @@ pub(crate) fn owned(alloc: Global, text: &str) -> Result<String, AllocError> {
 }
 
 /// The number of a word.
-pub(crate) fn number_of(word: &str) -> Result<u32> {
+pub(crate) fn number_of(word: &str) -> Result<u64> {
+    Ok(word.parse::<u64>()?)
+}
+
+/// The length of a word, of a list that always has it.
+pub(crate) fn length_of(word: &str) -> Result<u32> {
     Ok(word.parse::<u32>()?)
 }
 
@@ -45,7 +50,7 @@ pub(crate) fn sort_of(word: &str) -> Result<Sort> {
 }
 
 /// The sort and the index of a word `func.0`.
-pub(crate) fn index_of(word: &str) -> Result<(Sort, u32)> {
+pub(crate) fn index_of(word: &str) -> Result<(Sort, u64)> {
     let (sort, index) = word.split_once('.').context("an index has a sort")?;
     Ok((sort_of(sort)?, number_of(index)?))
 }
@@ -62,7 +67,7 @@ pub(crate) fn primitive_of(word: &str) -> Result<PrimitiveType> {
 
 /// The value type of a word: a primitive type, or the index of a type.
 pub(crate) fn value_of(word: &str) -> Result<ValueType> {
-    match word.parse::<u32>() {
+    match word.parse::<u64>() {
         Ok(index) => Ok(ValueType::Index(index)),
         Err(_) => Ok(ValueType::Primitive(primitive_of(word)?)),
     }

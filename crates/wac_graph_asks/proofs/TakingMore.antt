@@ -41,7 +41,6 @@ merging_holds AggregateError.Memory h is = absurd is
 pub if_conflict : {P Q : Cause ℕ → Type 0} (e : OuterError) → ((cause : Cause ℕ) → P cause → Q cause) → IfConflict e P → IfConflict e Q
 if_conflict (OuterError.ExplicitImportConflict n first second) f h = f (ExplicitImport (string_bytes n) first second) h
 if_conflict (OuterError.ImportTypeMergeConflict n first second source) f h = f (ImportTypes (string_bytes n) first second) h
-if_conflict OuterError.TooLarge f h = tt
 if_conflict OuterError.Memory f h = tt
 
 module _ (c : Collection) (before : Kept) (first ask : HeldAsk) where

@@ -109,10 +109,9 @@ conflict_of a first = conflict_by a.asking a first
 abbrev pub IfConflict : OuterError → (Cause ℕ → Type 0) → Type 0
 IfConflict (OuterError.ExplicitImportConflict n first second) P = P (ExplicitImport (string_bytes n) first second)
 IfConflict (OuterError.ImportTypeMergeConflict n first second source) P = P (ImportTypes (string_bytes n) first second)
-IfConflict OuterError.TooLarge P = Unit {0}
 IfConflict OuterError.Memory P = Unit {0}
 
--- it is refused for want of memory or room alone
+-- it is refused for want of memory alone
 abbrev pub IsNoConflict : OuterError → Type 0
 IsNoConflict e = IfConflict e (λ cause. ⊥)
 

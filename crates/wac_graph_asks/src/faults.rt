@@ -21,8 +21,6 @@ pub enum OuterError {
         second: NodeId,
         source: AggregateError,
     },
-    /// More types than ids.
-    TooLarge,
     Memory,
 }
 

@@ -205,7 +205,8 @@ fn outer_world(
     let world = world_kept(alloc, asked, classes, taken)?;
     match add_world(&mut asked.types, world)? {
         Some(world) => Ok(world),
-        None => Err(OuterError::TooLarge),
+        // Each import stands, since what is asked does.
+        None => Err(OuterError::Memory),
     }
 }
 

@@ -266,10 +266,10 @@ component_short : (ss : List Section) → AllByRecursion (NestedShort (length (c
 unfolding component_bytes
 component_short ss = sections_short (length (component_bytes ss)) ss (omega (arith, length-append preamble (flat_map section_bytes ss)))
 
-sound : (w : Worlds) (bytes : List ℕ) (v : Wiring ℕ) → (m : Means w bytes v) → IsSound (length bytes) m.last
+sound : (w : Worlds) (bytes : List ℕ) (v : Wiring ℕ) → (m : Means w bytes v) → IsSound (length bytes) m.states.last
 sound w bytes v m =
     let f : List ℕ → Type 0 = λ b. AllByRecursion (NestedShort (length b)) (entries_of m.sections) in
-    sound_steps w (length bytes) (entries_of m.sections) start m.last m.read (subst f (sym m.spelled) (component_short m.sections)) (sound_start (length bytes))
+    sound_steps w (length bytes) (entries_of m.sections) start m.states.last m.states.read (subst f (sym m.spelled) (component_short m.sections)) (sound_start (length bytes))
 
 -- ---- the wiring
 
@@ -303,13 +303,13 @@ named_plain (Definition t) p = tt
 
 module _ (w : Worlds) (bytes : List ℕ) (v : Wiring ℕ) (m : Means w bytes v) where
   abbrev l : Listed
-  l = m.last.listed
+  l = m.states.last.listed
 
   made_at : (k : ℕ) (x : Instantiation ℕ) → v.at k ≡ Some x → (y : Made_of) × (slice_get l.instances k ≡ Some y) × (instantiation y ≡ x)
-  made_at k x e = at_is (slice_get l.instances k) x (ap (λ (u : Wiring ℕ). u.at k) m.wired ∙ e)
+  made_at k x e = at_is (slice_get l.instances k) x (ap (λ (u : Wiring ℕ). u.at k) m.states.wired ∙ e)
 
   there : (j : ℕ) → j < length l.instances → (y : Instantiation ℕ) × (v.at j ≡ Some y)
-  there j lt = let y = get_there l.instances j lt in (y.0, ap (λ (u : Wiring ℕ). u.at j) (sym m.wired) ∙ y.1)
+  there j lt = let y = get_there l.instances j lt in (y.0, ap (λ (u : Wiring ℕ). u.at j) (sym m.states.wired) ∙ y.1)
 
   args_under : (k : ℕ) (x : Instantiation ℕ) → v.at k ≡ Some x → (n : Name) → IsPlain (x.args n) × Uses (λ j. (j < k) × ((y : Instantiation ℕ) × (v.at j ≡ Some y))) (x.args n)
   args_under k x e n =
@@ -327,7 +327,7 @@ module _ (w : Worlds) (bytes : List ℕ) (v : Wiring ℕ) (m : Means w bytes v) 
       let P : Source ℕ → Type 0 = λ a. IsPlain a × Uses (λ j. (z : Instantiation ℕ) × (v.at j ≡ Some z)) a in
       let one : (a : Source ℕ) → Under (length l.instances) a → P a = λ a u. (named_plain a u.1, Uses-weaker (λ j h. there j h) a u.0) in
       let h = source_has P l.exports n (tt, tt) (all_weaker (λ a u. one a.1 u) l.exports s.exports) in
-      subst (λ (u : Wiring ℕ). P (u.exports n)) m.wired h
+      subst (λ (u : Wiring ℕ). P (u.exports n)) m.states.wired h
 
 pub ordered : (w : Worlds) (bytes : List ℕ) (v : Wiring ℕ) → Means w bytes v → IsOrdered v
 ordered w bytes v m = record {

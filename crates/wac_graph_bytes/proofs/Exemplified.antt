@@ -46,14 +46,16 @@ passed_means w = record {
   sections = passed_sections;
   spelled = passed_spelled;
   fits = (refl, (refl, (refl, tt)));
-  last = passed_state;
-  read = passed_read w;
-  wired = refl;
-  stated = tt;
-  imports = (λ a. a, tt);
-  instances = tt;
-  exports = (λ a. a, tt);
-  exports_apart = (refl, tt);
+  states = record {
+    last = passed_state;
+    read = passed_read w;
+    wired = refl;
+    stated = tt;
+    imports = (λ a. a, tt);
+    instances = tt;
+    exports = (λ a. a, tt);
+    exports_apart = (refl, tt);
+  };
 }
 
 -- an export twice
@@ -78,8 +80,8 @@ unfolding export_names
 twice_means_nothing w v m =
     let same = sections_is m.sections twice_sections (sym m.spelled ∙ twice_spelled) in
     let f : List Section → List Name = λ ss. export_names (steps w start (entries_of ss)) in
-    let e : names_of m.last.listed.exports ≡ codes "g" ∷ codes "g" ∷ [] = sym (ap export_names m.read) ∙ ap f same ∙ twice_read w in
-    let d = subst (λ (ns : List Name). AreDistinct ns) e m.exports in
+    let e : names_of m.states.last.listed.exports ≡ codes "g" ∷ codes "g" ∷ [] = sym (ap export_names m.states.read) ∙ ap f same ∙ twice_read w in
+    let d = subst (λ (ns : List Name). AreDistinct ns) e m.states.exports in
     d.0 (inl refl)
 
 -- a name that is no UTF-8
@@ -110,14 +112,16 @@ empty_means w = record {
   sections = producers (codes "wac-parser", codes "0.11.0") ∷ [];
   spelled = empty_spelled;
   fits = (refl, tt);
-  last = start;
-  read = refl;
-  wired = refl;
-  stated = tt;
-  imports = tt;
-  instances = tt;
-  exports = tt;
-  exports_apart = tt;
+  states = record {
+    last = start;
+    read = refl;
+    wired = refl;
+    stated = tt;
+    imports = tt;
+    instances = tt;
+    exports = tt;
+    exports_apart = tt;
+  };
 }
 
 -- ---- a type in bytes, and the same in a collection

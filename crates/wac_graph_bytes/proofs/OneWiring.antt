@@ -13,6 +13,6 @@ pub wiring_is : (worlds : Worlds) (bytes : List ℕ) (a b : Wiring ℕ) → Mean
 wiring_is worlds bytes a b p q =
     let same = sections_is p.sections q.sections (sym p.spelled ∙ q.spelled) in
     let f : List Section → Option State = λ ss. steps worlds start (entries_of ss) in
-    let last = some_is p.last q.last (sym p.read ∙ ap f same ∙ q.read) in
+    let last = some_is p.states.last q.states.last (sym p.states.read ∙ ap f same ∙ q.states.read) in
     let g : State → Wiring ℕ = λ s. wiring_of s.listed in
-    sym p.wired ∙ ap g last ∙ q.wired
+    sym p.states.wired ∙ ap g last ∙ q.states.wired

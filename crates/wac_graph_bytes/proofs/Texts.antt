@@ -1,6 +1,6 @@
 -- Names that are known fit, so a writer of one refuses for want of memory alone.
-use Rattle.std.proofs.Common.{◌≡◌, ℕ, Bool, true, false, true≢false, List, codes, refl, sym, ◌∙◌}
-use Rattle.std.specs.Prelude.{Result, Err}
+use Rattle.std.proofs.Common.{◌≡◌, ℕ, Bool, true, true≢false, List, codes, refl, sym, ◌∙◌}
+use Rattle.std.specs.Prelude.{Err}
 use Rattle.std.specs.Str.{chars, is_utf8}
 use lib.Utf8.{encode}
 use Rattle.wac_graph_bytes.specs.declared.fault.SizeError.{SizeError}

@@ -1,15 +1,13 @@
--- What a written component means: the sections of entries have these entries, and fit.
-use Rattle.std.proofs.Common.{◌≡◌, ℕ, Bool, true, false, List, [], ◌∷◌, ◌++◌, length, map, Option, Some, None, refl, ap, ◌∙◌}
+-- The sections of entries have these entries, and fit.
+use Rattle.std.proofs.Common.{◌≡◌, ℕ, true, List, [], ◌∷◌, ◌++◌, length, map, Option, Some, None, refl, ap, ◌∙◌}
 use Rattle.std.proofs.lemmas.Bool.{and_from, and_parts}
 use Rattle.std.specs.Prelude.{◌&&◌}
 use Rattle.std.specs.List.{AllByRecursion, list_all}
-use Rattle.wac_types_base.specs.Entries.{Name, names_of, AreDistinct}
+use Rattle.wac_types_base.specs.Entries.{Name}
 use Rattle.wac_graph_bytes.specs.declared.value.Sort.{Sort}
 use Rattle.wac_graph_bytes.specs.Entries.{Entry, Core, Nested, Instantiate, Aliased, Typed, Imported, Exported, Section, section_entries, entries_of}
-use Rattle.wac_graph_bytes.specs.Spelling.{component_bytes, contents}
+use Rattle.wac_graph_bytes.specs.Spelling.{contents}
 use Rattle.wac_graph_bytes.specs.Sizes.{section_fits, name_fits, small}
-use Rattle.wac_graph_bytes.specs.Typing.{Worlds, item_tree}
-use Rattle.wac_graph_bytes.specs.Meaning.{State, start, steps, wiring_of, IsApart, IsMade, Means}
 use Rattle.wac_graph_bytes.specs.Writing.{section_of, entry_fits, debug_part_fits, debug_names, debug_if, debug_if_fits, producers, producers_if, producers_if_fit, sections_for, sections_fit}
 use Rattle.wac_graph_bytes.proofs.Texts.{producers_fits, component_name_fits}
 
@@ -60,28 +58,3 @@ sections_small es p ns h =
     let a = and_parts (list_all entry_fits es) (debug_if_fits ns && producers_if_fit p) h in
     let b = and_parts (debug_if_fits ns) (producers_if_fit p) a.1 in
     entries_small es (debug_if ns ++ producers_if p) a.0 (custom_small p ns b.0 b.1)
-
--- what makes the state behind the last entry one of a meaning
-pub record IsWhole (w : Worlds) (last : State) : Type 0 where
-  pub stated : AllByRecursion (λ s. item_tree w s.0 ≡ Some s.1) last.stated
-  pub imports : AreDistinct (names_of last.listed.imports)
-  pub instances : AllByRecursion (IsMade last.listed) last.listed.instances
-  pub exports : AreDistinct (names_of last.listed.exports)
-  pub exports_apart : AllByRecursion (λ e. IsApart last.listed e.1) last.listed.exports
-
--- What was written means what its entries state.
-pub written_means : (w : Worlds) (es : List Entry) (p : Option (Name × Name)) (ns : List (Sort × List (ℕ × Name))) (out : List ℕ) (last : State)
-    → out ≡ component_bytes (sections_for es p ns) → sections_fit es p ns ≡ true → steps w start es ≡ Some last → IsWhole w last → Means w out (wiring_of last.listed)
-written_means w es p ns out last e fits reads whole = record {
-  sections = sections_for es p ns;
-  spelled = e;
-  fits = sections_small es p ns fits;
-  last = last;
-  read = ap (λ (t : List Entry). steps w start t) (sections_entries es p ns) ∙ reads;
-  wired = refl;
-  stated = whole.stated;
-  imports = whole.imports;
-  instances = whole.instances;
-  exports = whole.exports;
-  exports_apart = whole.exports_apart;
-}

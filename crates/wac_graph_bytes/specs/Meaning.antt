@@ -146,15 +146,10 @@ pub record IsMade (l : Listed) (x : Tag × List (Name × Source ℕ)) : Type 0 w
   pub distinct : AreDistinct (names_of x.1)
   pub apart : AllByRecursion (λ a. IsApart l a.1) x.1
 
--- The byte string is a component's, and its entries state that wiring.
-pub record Means (worlds : Worlds) (bytes : List ℕ) (wiring : Wiring ℕ) : Type 0 where
-  -- it is the spelling of these sections, whose numbers have 32 bits
-  pub sections : List Section
-  pub spelled : bytes ≡ component_bytes sections
-  pub fits : AllByRecursion (λ s. section_fits s ≡ true) sections
-  -- their entries can be read one after another to this last state, and state the wiring
+-- The entries can be read one after another to this last state, and state the wiring.
+pub record States (worlds : Worlds) (entries : List Entry) (wiring : Wiring ℕ) : Type 0 where
   pub last : State
-  pub read : steps worlds start (entries_of sections) ≡ Some last
+  pub read : steps worlds start entries ≡ Some last
   pub wired : wiring_of last.listed ≡ wiring
   -- what an export is said to be is exactly what it is
   pub stated : AllByRecursion (λ s. item_tree worlds s.0 ≡ Some s.1) last.stated
@@ -163,3 +158,11 @@ pub record Means (worlds : Worlds) (bytes : List ℕ) (wiring : Wiring ℕ) : Ty
   pub instances : AllByRecursion (IsMade last.listed) last.listed.instances
   pub exports : AreDistinct (names_of last.listed.exports)
   pub exports_apart : AllByRecursion (λ e. IsApart last.listed e.1) last.listed.exports
+
+-- The byte string is a component's, and its entries state that wiring.
+pub record Means (worlds : Worlds) (bytes : List ℕ) (wiring : Wiring ℕ) : Type 0 where
+  -- it is the spelling of these sections, whose numbers have 32 bits
+  pub sections : List Section
+  pub spelled : bytes ≡ component_bytes sections
+  pub fits : AllByRecursion (λ s. section_fits s ≡ true) sections
+  pub states : States worlds (entries_of sections) wiring

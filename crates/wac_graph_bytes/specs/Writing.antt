@@ -55,7 +55,7 @@ abbrev pub debug_names : List (Sort × List (ℕ × Name)) → Section
 debug_names xs = Custom (codes "component-name") (flat_map debug_part xs)
 
 abbrev pub index_name_fits : ℕ × Name → Bool
-index_name_fits x = name_fits x.1
+index_name_fits x = small x.0 && name_fits x.1
 
 abbrev pub debug_part_fits : Sort × List (ℕ × Name) → Bool
 debug_part_fits x = vec_fits index_name_fits x.1 && small (length (sort_names x))

@@ -92,7 +92,7 @@ fn push_index_names(out: &mut Vec<u8>, names: &[IndexName]) -> Result<(), SizeEr
 {
     push_unsigned(out, names.len() as u64)?;
     for n in names {
-        push_unsigned(out, n.index as u64)?;
+        push_unsigned(out, n.index)?;
         push_name(out, n.name.as_str())?;
     }
     Ok(())

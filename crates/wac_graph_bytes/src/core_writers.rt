@@ -89,7 +89,7 @@ pub fn push_core_description(out: &mut Vec<u8>, d: CoreDescription) -> Result<()
     match d {
         CoreDescription::Func(index) => {
             out.push(0x00)?;
-            push_unsigned(out, index as u64)?;
+            push_unsigned(out, index)?;
         }
         CoreDescription::Table(reference, l) => {
             out.push(0x01)?;
@@ -108,7 +108,7 @@ pub fn push_core_description(out: &mut Vec<u8>, d: CoreDescription) -> Result<()
         CoreDescription::Tag(index) => {
             out.push(0x04)?;
             out.push(0x00)?;
-            push_unsigned(out, index as u64)?;
+            push_unsigned(out, index)?;
         }
     }
     Ok(())

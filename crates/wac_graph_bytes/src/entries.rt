@@ -3,7 +3,7 @@ ghost use Rattle.std.specs.Prelude.{◌≡◌, ◌++◌, ◌∷◌, [], OnOk, tr
 ghost use Rattle.wac_graph_bytes.specs.Leb.{unsigned};
 ghost use Rattle.wac_graph_bytes.specs.Entries.{Core, ComponentType, InstanceType};
 ghost use Rattle.wac_graph_bytes.specs.Spelling.{vec, argument, instance_entry, import_entry, stated_bytes, export_entry, type_entry, framed, contents};
-ghost use Rattle.wac_graph_bytes.specs.Sizes.{small, vec_fits, argument_fits, instance_fits, named_fits, export_fits, type_fits, inside_fits};
+ghost use Rattle.wac_graph_bytes.specs.Sizes.{small, vec_fits, argument_fits, instance_fits, import_fits, stated_fits, export_fits, type_fits, inside_fits};
 ghost use Rattle.wac_graph_bytes.specs.Views.{arguments_view, export_view, declarations_of, view};
 ghost use Rattle.wac_graph_bytes.specs.Writing.{Appends, section_of};
 
@@ -25,7 +25,7 @@ pub fn push_arguments(out: &mut Vec<u8>, arguments: &[NamedIndex]) -> Result<(),
     for a in arguments {
         push_name(out, a.name.as_str())?;
         push_sort(out, a.sort)?;
-        push_unsigned(out, a.index as u64)?;
+        push_unsigned(out, a.index)?;
     }
     Ok(())
 }
@@ -33,20 +33,20 @@ pub fn push_arguments(out: &mut Vec<u8>, arguments: &[NamedIndex]) -> Result<(),
 /// An instance of a component, with arguments.
 pub fn push_instance(
     out: &mut Vec<u8>,
-    component: u32,
+    component: u64,
     arguments: &[NamedIndex],
 ) -> Result<(), SizeError>
     ensures { Appends result out.old.items out.new.items (instance_entry (component, arguments_view arguments.now))
         (instance_fits (component, arguments_view arguments.now)) }
 {
     out.push(0x00)?;
-    push_unsigned(out, component as u64)?;
+    push_unsigned(out, component)?;
     push_arguments(out, arguments)
 }
 
 /// An import.
 pub fn push_import(out: &mut Vec<u8>, name: &str, d: Description) -> Result<(), SizeError>
-    ensures { Appends result out.old.items out.new.items (import_entry (name.now, d)) (named_fits (name.now, d)) }
+    ensures { Appends result out.old.items out.new.items (import_entry (name.now, d)) (import_fits (name.now, d)) }
 {
     push_extern_name(out, name)?;
     push_description(out, d)?;
@@ -55,7 +55,7 @@ pub fn push_import(out: &mut Vec<u8>, name: &str, d: Description) -> Result<(), 
 
 /// What an export is said to be, or nothing.
 fn push_stated(out: &mut Vec<u8>, d: Option<Description>) -> Result<(), SizeError>
-    ensures { Appends result out.old.items out.new.items (stated_bytes d) true }
+    ensures { Appends result out.old.items out.new.items (stated_bytes d) (stated_fits d) }
 {
     match d {
         None => out.push(0x00)?,
@@ -73,7 +73,7 @@ pub fn push_export(out: &mut Vec<u8>, e: &Export) -> Result<(), SizeError>
 {
     push_extern_name(out, e.name.as_str())?;
     push_sort(out, e.sort)?;
-    push_unsigned(out, e.index as u64)?;
+    push_unsigned(out, e.index)?;
     push_stated(out, e.stated)?;
     Ok(())
 }

@@ -32,8 +32,8 @@ pub enum DefinedType {
     /// What stands in `ok` and in `err`.
     Result(Option<ValueType>, Option<ValueType>),
     /// A handle of the resource of that index.
-    Own(u32),
-    Borrow(u32),
+    Own(u64),
+    Borrow(u64),
     Stream(Option<ValueType>),
     Future(Option<ValueType>),
     /// Whether it is async, its parameters, its answer.
@@ -43,9 +43,9 @@ pub enum DefinedType {
 #[derive(Debug, Drop)]
 pub enum Alias {
     /// An export of an instance.
-    Export(Sort, u32, String),
+    Export(Sort, u64, String),
     /// An index of the scope that many scopes further out.
-    Outer(Sort, u32, u32),
+    Outer(Sort, u64, u64),
 }
 
 /// What goes under a name: an argument of an instantiation.
@@ -53,7 +53,7 @@ pub enum Alias {
 pub struct NamedIndex {
     pub name: String,
     pub sort: Sort,
-    pub index: u32,
+    pub index: u64,
 }
 
 /// An export, and what it is said to be, where that is written.
@@ -61,7 +61,7 @@ pub struct NamedIndex {
 pub struct Export {
     pub name: String,
     pub sort: Sort,
-    pub index: u32,
+    pub index: u64,
     pub stated: Option<Description>,
 }
 
@@ -82,7 +82,7 @@ pub enum Declaration {
 pub enum Entry {
     Module(Vec<CoreDeclaration>),
     Nested(Vec<u8>),
-    Instantiate(u32, Vec<NamedIndex>),
+    Instantiate(u64, Vec<NamedIndex>),
     Alias(Alias),
     Defined(DefinedType),
     ComponentType(Vec<Declaration>),
@@ -101,7 +101,7 @@ pub struct Processor {
 /// A name for debuggers, of what stands at an index.
 #[derive(Debug, Drop)]
 pub struct IndexName {
-    pub index: u32,
+    pub index: u64,
     pub name: String,
 }
 

@@ -36,11 +36,11 @@ pub struct Limits {
 /// A core import or export. A function and a tag name the index of a signature.
 #[derive(Clone, Copy, Debug, PartialEq, Eq, Hash)]
 pub enum CoreDescription {
-    Func(u32),
+    Func(u64),
     Table(CoreReference, Limits),
     Memory(Limits, bool),
     Global(CoreValue, bool),
-    Tag(u32),
+    Tag(u64),
 }
 
 /// A declaration of a core module type.

@@ -1,5 +1,6 @@
 //! LEB128, and names.
-ghost use Rattle.std.specs.Prelude.{◌≡◌, ◌<◌, ◌^◌, ◌++◌, ◌∷◌, [], OnOk, map, string_bytes};
+ghost use Rattle.std.specs.Prelude.{◌≡◌, ◌<◌, ◌^◌, ◌++◌, ◌∷◌, [], OnOk, IfErr, map, string_bytes, true, false};
+ghost use Rattle.wac_graph_bytes.specs.declared.fault.SizeError.TheVariants.{TooLarge};
 ghost use Rattle.wac_graph_bytes.specs.Leb.{digits, unsigned, signed};
 ghost use Rattle.wac_graph_bytes.specs.Spelling.{name, extern_name, vec};
 ghost use Rattle.wac_graph_bytes.specs.Sizes.{small, name_fits, bound_fits, vec_fits};
@@ -23,13 +24,22 @@ fn push_digits(out: &mut Vec<u8>, limit: u64, n: u64) -> Result<(), AllocError>
     Ok(())
 }
 
-/// A count, an index or a size.
-pub fn push_unsigned(out: &mut Vec<u8>, n: u64) -> Result<(), SizeError>
-    ensures { Appends result out.old.items out.new.items (unsigned n) (small n) }
+/// That a number has 32 bits.
+fn check_small(n: u64) -> Result<(), SizeError>
+    ensures small { OnOk result (small n ≡ true) }
+    ensures large { IfErr result (λ e. (e ≡ TooLarge) × (small n ≡ false)) }
 {
     if n > 4294967295 {
         return Err(SizeError::TooLarge);
     }
+    Ok(())
+}
+
+/// A count, an index or a size.
+pub fn push_unsigned(out: &mut Vec<u8>, n: u64) -> Result<(), SizeError>
+    ensures { Appends result out.old.items out.new.items (unsigned n) (small n) }
+{
+    check_small(n)?;
     push_digits(out, 128, n)?;
     Ok(())
 }
@@ -38,18 +48,20 @@ pub fn push_unsigned(out: &mut Vec<u8>, n: u64) -> Result<(), SizeError>
 pub fn push_bound(out: &mut Vec<u8>, wide: bool, n: u64) -> Result<(), SizeError>
     ensures { Appends result out.old.items out.new.items (unsigned n) (bound_fits wide n) }
 {
-    if !wide && n > 4294967295 {
-        return Err(SizeError::TooLarge);
+    if !wide {
+        check_small(n)?;
     }
     push_digits(out, 128, n)?;
     Ok(())
 }
 
 /// An index as the type of a value.
-pub fn push_signed(out: &mut Vec<u8>, n: u32) -> Result<(), AllocError>
-    ensures { OnOk result (out.new.items ≡ out.old.items ++ signed n) }
+pub fn push_signed(out: &mut Vec<u8>, n: u64) -> Result<(), SizeError>
+    ensures { Appends result out.old.items out.new.items (signed n) (small n) }
 {
-    push_digits(out, 64, n as u64)
+    check_small(n)?;
+    push_digits(out, 64, n)?;
+    Ok(())
 }
 
 /// A text with its length.

@@ -1,9 +1,9 @@
 //! The bytes of type entries without declarations, of sorts, descriptions and aliases.
-ghost use Rattle.std.specs.Prelude.{◌≡◌, ◌<◌, ◌^◌, ◌++◌, ◌∷◌, [], OnOk, string_bytes, true, false};
+ghost use Rattle.std.specs.Prelude.{◌≡◌, ◌<◌, ◌^◌, ◌++◌, ◌∷◌, ◌&&◌, [], OnOk, string_bytes, true, false};
 ghost use Rattle.wac_types_base.specs.Entries.{texts_of};
 ghost use Rattle.wac_graph_bytes.specs.Leb.{unsigned, signed};
 ghost use Rattle.wac_graph_bytes.specs.Spelling.{vec, name, sort_bytes, primitive_byte, value_type, optional, answer, field, case_bytes, func_byte, defined_type, description, alias_bytes};
-ghost use Rattle.wac_graph_bytes.specs.Sizes.{small, name_fits, vec_fits, any_fits, named_fits, defined_fits, alias_fits};
+ghost use Rattle.wac_graph_bytes.specs.Sizes.{small, name_fits, vec_fits, value_fits, optional_fits, field_fits, case_fits, description_fits, defined_fits, alias_fits};
 ghost use Rattle.wac_graph_bytes.specs.Views.{params_view, cases_view, defined_view, alias_view};
 ghost use Rattle.wac_graph_bytes.specs.Writing.{Appends};
 
@@ -52,8 +52,8 @@ fn byte_of(primitive: PrimitiveType) -> u8
 }
 
 /// The type of a value.
-pub fn push_value_type(out: &mut Vec<u8>, ty: ValueType) -> Result<(), AllocError>
-    ensures { OnOk result (out.new.items ≡ out.old.items ++ value_type ty) }
+pub fn push_value_type(out: &mut Vec<u8>, ty: ValueType) -> Result<(), SizeError>
+    ensures { Appends result out.old.items out.new.items (value_type ty) (value_fits ty) }
 {
     match ty {
         ValueType::Primitive(p) => out.push(byte_of(p))?,
@@ -63,8 +63,8 @@ pub fn push_value_type(out: &mut Vec<u8>, ty: ValueType) -> Result<(), AllocErro
 }
 
 /// A type or none.
-pub fn push_optional(out: &mut Vec<u8>, ty: Option<ValueType>) -> Result<(), AllocError>
-    ensures { OnOk result (out.new.items ≡ out.old.items ++ optional ty) }
+pub fn push_optional(out: &mut Vec<u8>, ty: Option<ValueType>) -> Result<(), SizeError>
+    ensures { Appends result out.old.items out.new.items (optional ty) (optional_fits ty) }
 {
     match ty {
         None => out.push(0x00)?,
@@ -77,8 +77,8 @@ pub fn push_optional(out: &mut Vec<u8>, ty: Option<ValueType>) -> Result<(), All
 }
 
 /// What a function answers.
-pub fn push_answer(out: &mut Vec<u8>, ty: Option<ValueType>) -> Result<(), AllocError>
-    ensures { OnOk result (out.new.items ≡ out.old.items ++ answer ty) }
+pub fn push_answer(out: &mut Vec<u8>, ty: Option<ValueType>) -> Result<(), SizeError>
+    ensures { Appends result out.old.items out.new.items (answer ty) (optional_fits ty) }
 {
     match ty {
         None => out.extend_from_slice(&[0x01, 0x00])?,
@@ -94,7 +94,7 @@ pub fn push_answer(out: &mut Vec<u8>, ty: Option<ValueType>) -> Result<(), Alloc
 #[tactic(auto, using(crate::proofs::Loops::unfit_item))]
 pub fn push_params(out: &mut Vec<u8>, params: &[Param]) -> Result<(), SizeError>
     ensures { Appends result out.old.items out.new.items (vec field (params_view params.now))
-        (vec_fits named_fits (params_view params.now)) }
+        (vec_fits field_fits (params_view params.now)) }
 {
     push_unsigned(out, params.len() as u64)?;
     for p in params {
@@ -108,7 +108,7 @@ pub fn push_params(out: &mut Vec<u8>, params: &[Param]) -> Result<(), SizeError>
 #[tactic(auto, using(crate::proofs::Loops::unfit_item))]
 pub fn push_cases(out: &mut Vec<u8>, cases: &[Case]) -> Result<(), SizeError>
     ensures { Appends result out.old.items out.new.items (vec case_bytes (cases_view cases.now))
-        (vec_fits named_fits (cases_view cases.now)) }
+        (vec_fits case_fits (cases_view cases.now)) }
 {
     push_unsigned(out, cases.len() as u64)?;
     for c in cases {
@@ -121,7 +121,7 @@ pub fn push_cases(out: &mut Vec<u8>, cases: &[Case]) -> Result<(), SizeError>
 
 /// The types of a tuple.
 pub fn push_value_types(out: &mut Vec<u8>, types: &[ValueType]) -> Result<(), SizeError>
-    ensures { Appends result out.old.items out.new.items (vec value_type types.now) (vec_fits any_fits types.now) }
+    ensures { Appends result out.old.items out.new.items (vec value_type types.now) (vec_fits value_fits types.now) }
 {
     push_unsigned(out, types.len() as u64)?;
     for t in types {
@@ -138,7 +138,8 @@ fn push_func(
     result_type: Option<ValueType>,
 ) -> Result<(), SizeError>
     ensures { Appends result out.old.items out.new.items (func_byte is_async
-        ∷ (vec field (params_view params.now) ++ answer result_type)) (vec_fits named_fits (params_view params.now)) }
+        ∷ (vec field (params_view params.now) ++ answer result_type))
+        (vec_fits field_fits (params_view params.now) && optional_fits result_type) }
 {
     out.push(if is_async { 0x43 } else { 0x40 })?;
     push_params(out, params)?;
@@ -147,24 +148,24 @@ fn push_func(
 }
 
 /// A byte, and an index.
-fn push_handle(out: &mut Vec<u8>, byte: u8, index: u32) -> Result<(), SizeError>
-    ensures { Appends result out.old.items out.new.items (byte ∷ unsigned index) true }
+fn push_handle(out: &mut Vec<u8>, byte: u8, index: u64) -> Result<(), SizeError>
+    ensures { Appends result out.old.items out.new.items (byte ∷ unsigned index) (small index) }
 {
     out.push(byte)?;
-    push_unsigned(out, index as u64)
+    push_unsigned(out, index)
 }
 
 /// A byte, and a type.
-fn push_one_type(out: &mut Vec<u8>, byte: u8, ty: ValueType) -> Result<(), AllocError>
-    ensures { OnOk result (out.new.items ≡ out.old.items ++ byte ∷ value_type ty) }
+fn push_one_type(out: &mut Vec<u8>, byte: u8, ty: ValueType) -> Result<(), SizeError>
+    ensures { Appends result out.old.items out.new.items (byte ∷ value_type ty) (value_fits ty) }
 {
     out.push(byte)?;
     push_value_type(out, ty)
 }
 
 /// A byte, and a type or none.
-fn push_one_optional(out: &mut Vec<u8>, byte: u8, ty: Option<ValueType>) -> Result<(), AllocError>
-    ensures { OnOk result (out.new.items ≡ out.old.items ++ byte ∷ optional ty) }
+fn push_one_optional(out: &mut Vec<u8>, byte: u8, ty: Option<ValueType>) -> Result<(), SizeError>
+    ensures { Appends result out.old.items out.new.items (byte ∷ optional ty) (optional_fits ty) }
 {
     out.push(byte)?;
     push_optional(out, ty)
@@ -181,7 +182,8 @@ fn push_labels(out: &mut Vec<u8>, byte: u8, names: &[String]) -> Result<(), Size
 
 /// A list of a length that is always the same.
 fn push_fixed_size_list(out: &mut Vec<u8>, ty: ValueType, length: u32) -> Result<(), SizeError>
-    ensures { Appends result out.old.items out.new.items (0x67 ∷ (value_type ty ++ unsigned length)) (small length) }
+    ensures { Appends result out.old.items out.new.items (0x67 ∷ (value_type ty ++ unsigned length))
+        (value_fits ty && small length) }
 {
     out.push(0x67)?;
     push_value_type(out, ty)?;
@@ -193,8 +195,9 @@ fn push_result(
     out: &mut Vec<u8>,
     ok: Option<ValueType>,
     err: Option<ValueType>,
-) -> Result<(), AllocError>
-    ensures { OnOk result (out.new.items ≡ out.old.items ++ 0x6a ∷ (optional ok ++ optional err)) }
+) -> Result<(), SizeError>
+    ensures { Appends result out.old.items out.new.items (0x6a ∷ (optional ok ++ optional err))
+        (optional_fits ok && optional_fits err) }
 {
     out.push(0x6a)?;
     push_optional(out, ok)?;
@@ -204,7 +207,7 @@ fn push_result(
 /// The fields of a record.
 fn push_record(out: &mut Vec<u8>, fields: &[Param]) -> Result<(), SizeError>
     ensures { Appends result out.old.items out.new.items (0x72 ∷ vec field (params_view fields.now))
-        (vec_fits named_fits (params_view fields.now)) }
+        (vec_fits field_fits (params_view fields.now)) }
 {
     out.push(0x72)?;
     push_params(out, fields)
@@ -213,7 +216,7 @@ fn push_record(out: &mut Vec<u8>, fields: &[Param]) -> Result<(), SizeError>
 /// The cases of a variant.
 fn push_variant(out: &mut Vec<u8>, cases: &[Case]) -> Result<(), SizeError>
     ensures { Appends result out.old.items out.new.items (0x71 ∷ vec case_bytes (cases_view cases.now))
-        (vec_fits named_fits (cases_view cases.now)) }
+        (vec_fits case_fits (cases_view cases.now)) }
 {
     out.push(0x71)?;
     push_cases(out, cases)
@@ -221,7 +224,7 @@ fn push_variant(out: &mut Vec<u8>, cases: &[Case]) -> Result<(), SizeError>
 
 /// The types of a tuple.
 fn push_tuple(out: &mut Vec<u8>, types: &[ValueType]) -> Result<(), SizeError>
-    ensures { Appends result out.old.items out.new.items (0x6f ∷ vec value_type types.now) (vec_fits any_fits types.now) }
+    ensures { Appends result out.old.items out.new.items (0x6f ∷ vec value_type types.now) (vec_fits value_fits types.now) }
 {
     out.push(0x6f)?;
     push_value_types(out, types)
@@ -254,7 +257,7 @@ pub fn push_defined_type(out: &mut Vec<u8>, ty: &DefinedType) -> Result<(), Size
 
 /// What an import is, or what an export is said to be.
 pub fn push_description(out: &mut Vec<u8>, d: Description) -> Result<(), SizeError>
-    ensures { Appends result out.old.items out.new.items (description d) true }
+    ensures { Appends result out.old.items out.new.items (description d) (description_fits d) }
 {
     match d {
         Description::Module(i) => {
@@ -284,14 +287,14 @@ pub fn push_alias(out: &mut Vec<u8>, a: &Alias) -> Result<(), SizeError>
         Alias::Export(sort, instance, name) => {
             push_sort(out, *sort)?;
             out.push(0x00)?;
-            push_unsigned(out, *instance as u64)?;
+            push_unsigned(out, *instance)?;
             push_name(out, name.as_str())
         }
         Alias::Outer(sort, count, index) => {
             push_sort(out, *sort)?;
             out.push(0x02)?;
-            push_unsigned(out, *count as u64)?;
-            push_unsigned(out, *index as u64)
+            push_unsigned(out, *count)?;
+            push_unsigned(out, *index)
         }
     }
 }

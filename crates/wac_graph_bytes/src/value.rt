@@ -1,4 +1,4 @@
-//! What stands in entries and holds no memory.
+//! What stands in entries and holds no memory. An index may pass 32 bits; then what names it cannot be written.
 
 pub use wac_types_base::PrimitiveType;
 
@@ -16,18 +16,18 @@ pub enum Sort {
 #[derive(Clone, Copy, Debug, PartialEq, Eq, Hash)]
 pub enum ValueType {
     Primitive(PrimitiveType),
-    Index(u32),
+    Index(u64),
 }
 
 /// What an import is, or what an export is said to be.
 #[derive(Clone, Copy, Debug, PartialEq, Eq, Hash)]
 pub enum Description {
-    Module(u32),
-    Func(u32),
+    Module(u64),
+    Func(u64),
     /// The type of that index.
-    Equal(u32),
+    Equal(u64),
     /// A fresh resource.
     Resource,
-    Component(u32),
-    Instance(u32),
+    Component(u64),
+    Instance(u64),
 }

@@ -18,13 +18,11 @@ named_if b n = if b then Some (Unwritable n) else None
 
 pub tells_named : (n : Name) (o : Option (Cause ℕ)) (e : Unwritten) → o ≡ named_if true n → TellsName n e → TellsUnwritable o e
 tells_named n o (Unwritten.TypeCannotBeWritten m) is t = is ∙ ap (named_if true) (sym t)
-tells_named n o Unwritten.TooLarge is t = t
 tells_named n o Unwritten.Memory is t = tt
 
 -- another cause that is the same where there is one
 pub tells_same : (o p : Option (Cause ℕ)) (e : Unwritten) → ((c : Cause ℕ) → o ≡ Some c → p ≡ Some c) → TellsUnwritable o e → TellsUnwritable p e
 tells_same o p (Unwritten.TypeCannotBeWritten m) h t = h (Unwritable (string_bytes m)) t
-tells_same o p Unwritten.TooLarge h t = t
 tells_same o p Unwritten.Memory h t = tt
 
 -- ---- one cause before another

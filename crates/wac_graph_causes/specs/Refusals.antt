@@ -1,5 +1,4 @@
 -- The refusals that faults below are, and the errors that refusals are.
-use Rattle.wac_graph_bytes.specs.declared.fault.SizeError.{SizeError}
 use Rattle.wac_graph_asks.specs.declared.faults.OuterError.{OuterError}
 use Rattle.wac_graph_causes.specs.declared.errors.Refusal.{Refusal}
 use Rattle.wac_graph_causes.specs.declared.errors.Unwritten.{Unwritten}
@@ -9,16 +8,10 @@ abbrev pub outer_refusal : OuterError → Refusal
 outer_refusal (OuterError.ExplicitImportConflict name first second) = Refusal.ExplicitImportConflict name first second
 outer_refusal (OuterError.ImportTypeMergeConflict name first second source) =
     Refusal.ImportTypeMergeConflict name first second source
-outer_refusal OuterError.TooLarge = Refusal.TooLarge
 outer_refusal OuterError.Memory = Refusal.Memory
-
-abbrev pub size_fault : SizeError → Unwritten
-size_fault SizeError.TooLarge = Unwritten.TooLarge
-size_fault SizeError.Memory = Unwritten.Memory
 
 abbrev pub unwritten_refusal : Unwritten → Refusal
 unwritten_refusal (Unwritten.TypeCannotBeWritten name) = Refusal.TypeCannotBeWritten name
-unwritten_refusal Unwritten.TooLarge = Refusal.TooLarge
 unwritten_refusal Unwritten.Memory = Refusal.Memory
 
 abbrev pub refusal_shown : Refusal → EncodeError

@@ -12,7 +12,6 @@ use Rattle.wac_composition.specs.Asks.{Ask, named_asks, asks_to_use}
 use Rattle.wac_composition.specs.Conflicts.{placed}
 use Rattle.wac_composition.specs.Large.{IsLarge, large, label_size, written_size, names_size, entries_size, asked_entries, worlds_size}
 use Rattle.wac_graph_asks.specs.Asked.{IsAskedBehind}
-use Rattle.wac_graph_causes.specs.declared.errors.Refusal.{Refusal}
 
 -- ---- counting
 
@@ -79,16 +78,3 @@ pub record IsSmallGraph (g : Graph) : Type 0 where
   pub once : IsAskedBehind (named_asks (composition_of g)) (asks_to_use (composition_of g)) uses
   pub small : IsSmall (composition_of g) (named_asks (composition_of g) ++ uses)
   pub packages : HasLargePackage g → ⊥
-
--- ---- refusals
-
--- it tells that the graph is too large, which it is, or want of memory
-abbrev pub TellsLarge : Graph → Refusal → Type 0
-TellsLarge g Refusal.TooLarge = IsTooLarge g
-TellsLarge g Refusal.Memory = Unit {0}
-TellsLarge g e = ⊥
-
--- Of a refusal as too large this is told; any other stays.
-abbrev pub Confirms : Graph → (old new : Refusal) → Type 0
-Confirms g Refusal.TooLarge new = TellsLarge g new
-Confirms g old new = new ≡ old

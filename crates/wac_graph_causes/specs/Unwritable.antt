@@ -35,13 +35,11 @@ use Rattle.wac_graph_causes.specs.Alike.{AreHeld, dependency_of}
 -- it tells this name, or want of memory
 abbrev pub TellsName : Name → Unwritten → Type 0
 TellsName n (Unwritten.TypeCannotBeWritten m) = string_bytes m ≡ n
-TellsName n Unwritten.TooLarge = ⊥
 TellsName n Unwritten.Memory = Unit {0}
 
 -- it tells this cause, or want of memory
 abbrev pub TellsUnwritable : Option (Cause ℕ) → Unwritten → Type 0
 TellsUnwritable o (Unwritten.TypeCannotBeWritten m) = o ≡ Some (Unwritable (string_bytes m))
-TellsUnwritable o Unwritten.TooLarge = ⊥
 TellsUnwritable o Unwritten.Memory = Unit {0}
 
 -- the first of these that cannot be written

@@ -4,13 +4,11 @@ ghost use Rattle.std.specs.Prelude.{◌≡◌};
 ghost use Rattle.wac_graph_causes.specs.Acyclic.{IsNoCycle};
 ghost use Rattle.wac_graph_causes.specs.Refusals.{refusal_shown};
 
-use std::alloc::{AllocError, AllocFailed, Global};
+use std::alloc::{AllocError, AllocFailed};
 use std::fmt;
 use thiserror::Error;
 use wac_graph_asks::OuterError;
-use wac_graph_bytes::SizeError;
 use wac_graph_core::NodeId;
-use wac_graph_scopes::fault::WriteError;
 use wac_types_merge::AggregateError;
 use wac_types_names::PackageKey;
 
@@ -194,7 +192,6 @@ pub fn error_of(refusal: Refusal) -> EncodeError
 #[derive(Drop)]
 pub enum Unwritten {
     TypeCannotBeWritten { name: String },
-    TooLarge,
     Memory,
 }
 
@@ -220,20 +217,6 @@ impl<T: Drop> From<AllocFailed<T>> for Unwritten {
     }
 }
 
-impl From<SizeError> for Unwritten {
-    ghost use Rattle.std.specs.Prelude.{◌≡◌};
-    ghost use Rattle.wac_graph_causes.specs.Refusals.{size_fault};
-
-    ghost from_gives = { λ f e. e ≡ size_fault f };
-
-    fn from(e: SizeError) -> Self {
-        match e {
-            SizeError::TooLarge => Unwritten::TooLarge,
-            SizeError::Memory => Unwritten::Memory,
-        }
-    }
-}
-
 impl From<Unwritten> for Refusal {
     ghost use Rattle.std.specs.Prelude.{◌≡◌};
     ghost use Rattle.wac_graph_causes.specs.Refusals.{unwritten_refusal};
@@ -243,7 +226,6 @@ impl From<Unwritten> for Refusal {
     fn from(e: Unwritten) -> Self {
         match e {
             Unwritten::TypeCannotBeWritten { name } => Refusal::TypeCannotBeWritten { name },
-            Unwritten::TooLarge => Refusal::TooLarge,
             Unwritten::Memory => Refusal::Memory,
         }
     }
@@ -299,20 +281,7 @@ impl From<OuterError> for Refusal {
                 second,
                 source,
             },
-            OuterError::TooLarge => Refusal::TooLarge,
             OuterError::Memory => Refusal::Memory,
         }
-    }
-}
-
-/// Why the type under a name was not written.
-pub fn not_written(alloc: Global, name: &str, fault: WriteError) -> Unwritten {
-    match fault {
-        WriteError::TooLarge => Unwritten::TooLarge,
-        WriteError::Memory => Unwritten::Memory,
-        WriteError::Unwritable => match String::from_str(alloc, name) {
-            Ok(name) => Unwritten::TypeCannotBeWritten { name },
-            Err(_) => Unwritten::Memory,
-        },
     }
 }

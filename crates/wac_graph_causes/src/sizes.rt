@@ -18,10 +18,9 @@ ghost use Rattle.wac_graph_asks.specs.declared.asks.Definition.{Definition as He
 ghost use Rattle.wac_graph_asks.specs.Asked.{IsAsked, placed_in};
 ghost use Rattle.wac_graph_asks.specs.AsksIn.{asks_in};
 ghost use Rattle.wac_graph_asks.specs.Graphs.{composition_of};
-ghost use Rattle.wac_graph_causes.specs.Sizes.{Confirms, Counts, HasLargePackage, IsOfLarge, IsSmall, IsSmallGraph, IsTooLarge, TellsLarge};
+ghost use Rattle.wac_graph_causes.specs.Sizes.{Counts, HasLargePackage, IsOfLarge, IsSmall, IsSmallGraph, IsTooLarge};
 ghost use Rattle.wac_graph_causes.specs.Sizes.{instance_size, label_size_of, places_size, size_written, slot_size};
 
-use crate::errors::Refusal;
 use std::alloc::{AllocError, Global};
 use wac_graph_asks::asks::{Asked, asked_by};
 use wac_graph_asks::nodes::{package_at, package_of, world_at};
@@ -398,32 +397,4 @@ pub fn tells_too_large(alloc: Global, graph: &CompositionGraph) -> Result<bool, 
 {
     let asked = asked_by(alloc, graph, graph.types().number())?;
     Ok(is_too_large(graph, &asked))
-}
-
-// ---- refusals
-
-/// That a graph is too large, where it is; else want of memory is told.
-fn large_refusal(alloc: Global, graph: &CompositionGraph) -> Refusal
-    ensures { TellsLarge graph.now result }
-{
-    match tells_too_large(alloc, graph) {
-        Ok(yes) => {
-            if yes {
-                Refusal::TooLarge
-            } else {
-                Refusal::Memory
-            }
-        }
-        Err(_) => Refusal::Memory,
-    }
-}
-
-/// The refusal of a graph: it is told too large only where it is.
-pub fn confirmed(alloc: Global, graph: &CompositionGraph, refusal: Refusal) -> Refusal
-    ensures { Confirms graph.now refusal result }
-{
-    match refusal {
-        Refusal::TooLarge => large_refusal(alloc, graph),
-        other => other,
-    }
 }

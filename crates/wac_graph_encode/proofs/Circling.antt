@@ -18,8 +18,7 @@ use Rattle.wac_graph_core.specs.Graph.{Graph, IsGraph, package_of}
 use Rattle.wac_composition.specs.Asks.{asks_of}
 use Rattle.wac_composition.specs.Circles.{imports_inside, interfaces_written, written_inside}
 use Rattle.wac_composition.specs.Classes.{spelling}
-use Rattle.wac_composition.specs.Conflicts.{circle_cause, dependencies_of, outers_written, written_forms}
-use Rattle.wac_composition.specs.OuterImports.{outer_imports}
+use Rattle.wac_composition.specs.Conflicts.{dependencies_of, outers_written, written_forms}
 use Rattle.wac_graph_asks.specs.declared.asks.Asked.{Asked}
 use Rattle.wac_graph_asks.specs.declared.asks.Definition.{Definition}
 use Rattle.wac_graph_asks.specs.declared.outers.Outers.{Outers}
@@ -29,8 +28,8 @@ use Rattle.wac_graph_asks.specs.Outers.{AreOuters}
 use Rattle.wac_graph_asks.proofs.Asking.{world_kept}
 use Rattle.wac_graph_asks.proofs.Lasting.{outers_stay}
 use Rattle.wac_graph_causes.specs.declared.errors.Unwritten.{Unwritten}
-use Rattle.wac_graph_causes.specs.Circling.{CirclesPass, PackagesStand, TellsCircle, first_late, forms_in, held_circle, held_outers, packages_in, imported_packages}
-use Rattle.wac_graph_causes.specs.Unwritable.{TellsUnwritable, dependency_at, outers_of, package_world}
+use Rattle.wac_graph_causes.specs.Circling.{CirclesPass, PackagesStand, TellsCircle, first_late, forms_in, held_circle, packages_in, imported_packages}
+use Rattle.wac_graph_causes.specs.Unwritable.{TellsUnwritable, dependency_at, package_world}
 use Rattle.wac_graph_causes.proofs.CircleLaws.{named}
 use Rattle.wac_graph_causes.proofs.Dependencies.{packages_listed}
 use Rattle.wac_graph_causes.proofs.WorldsInside.{other_inside}

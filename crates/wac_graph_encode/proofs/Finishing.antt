@@ -8,18 +8,18 @@ use Rattle.wac_types_fit.proofs.Items.{among-value_at}
 use Rattle.wac_types_names.specs.Packaged.{Packaged}
 use Rattle.wac_graph_bytes.specs.declared.value.Sort.{Sort}
 use Rattle.wac_graph_bytes.specs.declared.entry.Entry.{Entry as CodeEntry}
-use Rattle.wac_graph_bytes.specs.Entries.{Entry}
+use Rattle.wac_graph_bytes.specs.Entries.{Entry, entries_of}
 use Rattle.wac_graph_bytes.specs.Spelling.{component_bytes}
 use Rattle.wac_graph_bytes.specs.Typing.{Worlds, Meaning, item_tree}
 use Rattle.wac_graph_bytes.specs.Wirings.{Tag, Source, Absent, Instantiation, Wiring}
-use Rattle.wac_graph_bytes.specs.Meaning.{IsApart, IsMade, IsMadeOf, Listed, is_package, source_at, start, steps, wiring_of}
+use Rattle.wac_graph_bytes.specs.Meaning.{IsApart, IsMade, IsMadeOf, Listed, States, is_package, source_at, start, steps, wiring_of}
 use Rattle.wac_graph_bytes.specs.Views.{view}
 use Rattle.wac_graph_bytes.specs.Writing.{sections_for, sections_fit}
-use Rattle.wac_graph_bytes.proofs.Written.{IsWhole, sections_entries, sections_small}
+use Rattle.wac_graph_bytes.proofs.Written.{sections_entries, sections_small}
 use Rattle.wac_graph_core.specs.Graph.{Graph, IsGraph, instantiated}
 use Rattle.wac_graph_asks.specs.Wirings.{asked_trees}
 use Rattle.wac_graph_encode.specs.Standing.{by_number, number_in, IsExported, IsFinished, IsInstanceOf, IsListed, StandsFor}
-use Rattle.wac_graph_encode.specs.Encoding.{as_written, tag_of, IsImportedIn, IsInstantiated, MeansGraph}
+use Rattle.wac_graph_encode.specs.Encoding.{as_written, tag_of, IsImportedIn, IsInstantiated, IsOfGraph, MeansGraph, StateGraph}
 use Rattle.wac_graph_encode.specs.Finished.{AreSpelled}
 use Rattle.wac_graph_encode.proofs.Sources.{IsAsked, asks_renamed, asks_weaker}
 use Rattle.wac_graph_encode.proofs.StandingWirings.{among_zip, tagged_wiring, written_wiring}
@@ -86,8 +86,12 @@ module _ (define : Bool) (g : Graph) (sound : IsGraph g) (asks : AsksImported g)
       let a = among_zip (IsExported g w define order) g.exports listed.exports done.exports e m in
       subst (IsApart listed) (sym a.1.is) (apart a.1.source (asks.nodes a.0.1 a.1.source a.1.denotes))
 
-  whole : IsWhole w done.state
-  whole = record {
+  -- entries that are these state the wiring
+  states : (t : List Entry) → t ≡ map view es → States w t (wiring_of listed)
+  states t same = record {
+    last = done.state;
+    read = ap (λ (l : List Entry). steps w start l) same ∙ done.reads;
+    wired = refl;
     stated = subst (λ (ss : List (Meaning × Tree)). AllByRecursion (λ s. item_tree w s.0 ≡ Some s.1) ss) (sym done.stated) tt;
     imports = subst (λ (xs : List (Name × Tree)). AreDistinct (names_of xs)) (sym done.imports) once;
     instances = all_of (IsMade listed) listed.instances made;
@@ -95,22 +99,8 @@ module _ (define : Bool) (g : Graph) (sound : IsGraph g) (asks : AsksImported g)
     exports_apart = all_of (λ e. IsApart listed e.1) listed.exports exported;
   }
 
-  pub means_graph : (bytes : List ℕ) → AreSpelled (map view es) bytes → MeansGraph define g w bytes
-  means_graph bytes s = record {
-    meant = wiring_of listed;
-    means = record {
-      sections = s.sections;
-      spelled = s.spelled;
-      fits = s.fits;
-      last = done.state;
-      read = ap (λ (t : List Entry). steps w start t) s.entries ∙ done.reads;
-      wired = refl;
-      stated = whole.stated;
-      imports = whole.imports;
-      instances = whole.instances;
-      exports = whole.exports;
-      exports_apart = whole.exports_apart;
-    };
+  of_graph : IsOfGraph define g (wiring_of listed) listed.imports
+  of_graph = record {
     same = λ W wires. written_wiring define g sound w asked es done (as_written define g W) (tagged_wiring define g W wires) (λ n. outers_written define n W ∙ wires.outers n ∙ beside.outers n);
     packages = beside.packages;
   }
@@ -118,3 +108,15 @@ module _ (define : Bool) (g : Graph) (sound : IsGraph g) (asks : AsksImported g)
       outers_written : (d : Bool) (n : Name) (W : Wiring ℕ) → (as_written d g W).outers n ≡ W.outers n
       outers_written true n W = refl
       outers_written false n W = refl
+
+  pub state_graph : StateGraph define g w (map view es)
+  unfolding states
+  state_graph = record { meant = wiring_of listed; states = states (map view es) refl; of = of_graph }
+
+  pub means_graph : (bytes : List ℕ) → AreSpelled (map view es) bytes → MeansGraph define g w bytes
+  unfolding states
+  means_graph bytes s = record {
+    meant = wiring_of listed;
+    means = record { sections = s.sections; spelled = s.spelled; fits = s.fits; states = states (entries_of s.sections) s.entries };
+    of = of_graph;
+  }

@@ -12,7 +12,7 @@ use Rattle.wac_types_base.proofs.Lists.{among_split, from_filtered}
 use Rattle.wac_types_names.specs.Packaged.{Packaged}
 use Rattle.wac_types_names.specs.Keys.{package_key}
 use Rattle.wac_graph_bytes.specs.declared.entry.Entry.{Entry as CodeEntry}
-use Rattle.wac_graph_bytes.specs.Entries.{Entry, Core, Nested, Instantiate, Aliased, Typed, Imported, Exported, Declarations, End, CoreThen, TypeThen, ComponentTypeThen, InstanceTypeThen, AliasThen, ImportThen, ExportThen}
+use Rattle.wac_graph_bytes.specs.Entries.{Entry, Core, Nested, Instantiate, Aliased, Typed, Imported, Exported, Declarations, End, CoreThen, TypeThen, ComponentTypeThen, InstanceTypeThen, AliasThen, ImportThen, ExportThen, entries_of}
 use Rattle.wac_graph_bytes.specs.Views.{view, declarations_of}
 use Rattle.wac_graph_core.specs.declared.ids.PackageId.{PackageId}
 use Rattle.wac_graph_core.specs.contracts.ids.PackageIdPartialEq.TheImpl.{eq-value}
@@ -28,7 +28,7 @@ use Rattle.wac_graph_asks.specs.Asked.{package_ids, with_id, with_ids}
 use Rattle.wac_graph_asks.proofs.ByNode.{entry_there}
 use Rattle.wac_graph_asks.proofs.Origins.{node_among, among_mapped}
 use Rattle.wac_graph_encode.specs.declared.root.Root.{Root}
-use Rattle.wac_graph_encode.specs.Encoding.{nested_in, nested_at, nested_strings, bytes_in, bytes_of, NestsPackages}
+use Rattle.wac_graph_encode.specs.Encoding.{nested_in, nested_at, nested_strings, bytes_in, bytes_of, NestPackages, NestsPackages}
 use Rattle.wac_graph_encode.specs.declared.root.Writing.{Writing}
 use Rattle.wac_graph_encode.specs.Beginning.{NestsThese, nested_bytes}
 use Rattle.wac_graph_encode.specs.Importing.{ImportsBefore, Packages}
@@ -210,19 +210,21 @@ module _ (g : Graph) where
     same_strings true ids h = held_bytes ids h
     same_strings false ids h = refl
 
-    -- the bytes nest the packages that are instantiated
-    pub nests_packages : (define : Bool) (ids : List PackageId) (bytes : List ℕ) → ids ≡ with_ids [] (package_ids g) → NestsBytes define g ids bytes → NestsPackages define g bytes
-    nests_packages define ids bytes are n = record {
+    -- entries that nest these packages nest the ones that are instantiated
+    pub nest_packages : (define : Bool) (ids : List PackageId) (es : List Entry) → ids ≡ with_ids [] (package_ids g) → nested_in es ≡ nested_bytes define g ids → NestPackages define g es
+    nest_packages define ids es are nested = record {
       packages = packages_of ids;
       once = keys_distinct ids (subst AreDistinct (sym are) (with_distinct [] (package_ids g) tt));
       those = λ p. (
         λ m. (let i = package_there ids p m in let k = ids_held i.0 (listed i.0 i.1) in (k.0, ap (package_made g) k.2 ∙ ap (package_if g) k.3 ∙ i.2)),
         λ made. let i = made_of p made.0 made.1 in package_among ids i.0 p (subst (Among i.0) (sym are) (with_has [] (package_ids g) i.0 i.1)) i.2,
       );
-      sections = n.sections;
-      spelled = n.spelled;
-      nested = n.nested ∙ same_strings define ids (λ id m. let k = ids_held id (listed id m) in (sound.nodes k.0 k.1 k.2).of id k.3);
+      nested = nested ∙ same_strings define ids (λ id m. let k = ids_held id (listed id m) in (sound.nodes k.0 k.1 k.2).of id k.3);
     }
       where
         listed : (id : PackageId) → Among id ids → Among id (package_ids g)
         listed id m = elim (with_among [] (package_ids g) id (subst (Among id) are m)) [ inl x ↦ absurd x | inr k ↦ k ]
+
+    -- and so do the bytes
+    pub nests_packages : (define : Bool) (ids : List PackageId) (bytes : List ℕ) → ids ≡ with_ids [] (package_ids g) → NestsBytes define g ids bytes → NestsPackages define g bytes
+    nests_packages define ids bytes are n = record { sections = n.sections; spelled = n.spelled; nest = nest_packages define ids (entries_of n.sections) are n.nested }

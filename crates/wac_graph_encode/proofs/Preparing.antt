@@ -1,6 +1,6 @@
 -- What is asked of a graph is prepared, and its bytes mean the graph's wiring.
 use Rattle.std.specs.List.{AllZip}
-use Rattle.std.proofs.Common.{◌≡◌, ℕ, Bool, true, false, true≢false, List, [], ◌∷◌, map, Option, Some, None, IsSome, Ok, inl, inr, refl, sym, ap, subst, ◌∙◌}
+use Rattle.std.proofs.Common.{◌≡◌, ℕ, Bool, true, false, true≢false, List, [], ◌∷◌, map, Option, Some, None, IsSome, Ok, Err, inl, inr, refl, sym, ap, subst, ◌∙◌}
 use Rattle.std.specs.declared.alloc.Global.{Global}
 use Rattle.std.specs.declared.vec.Vec.{Vec}
 use Rattle.wac_types_base.specs.declared.item.ItemKind.{ItemKind}
@@ -30,20 +30,21 @@ use Rattle.wac_graph_asks.specs.Outers.{AnswersOuters, HasImportsAlone}
 use Rattle.wac_graph_asks.proofs.Asking.{copy_kept, held_kept, world_kept}
 use Rattle.wac_graph_asks.proofs.ByNode.{entry_there}
 use Rattle.wac_graph_asks.proofs.Lasting.{outers_stay}
-use Rattle.wac_graph_causes.specs.declared.errors.Unwritten.{Unwritten}
+use Rattle.wac_graph_encode.specs.declared.fault.BytesError.{BytesError}
+use Rattle.wac_graph_causes.specs.Sizes.{IsTooLarge}
 use Rattle.wac_graph_causes.specs.Alike.{AreHeld}
 use Rattle.wac_graph_causes.specs.Unwritable.{IsWhole}
 use Rattle.wac_graph_encode.specs.declared.options.EncodeOptions.{EncodeOptions}
 use Rattle.wac_graph_encode.specs.Beginning.{AreTold}
 use Rattle.wac_graph_encode.specs.Importing.{AreToImport, AreWorldsOf}
-use Rattle.wac_graph_encode.specs.Refused.{HasNoneAlike}
+use Rattle.wac_graph_encode.specs.Refused.{FitsProcessor, HasNoneAlike, IsPastSize}
 use Rattle.wac_graph_encode.specs.Defining.{AreToWrite}
-use Rattle.wac_graph_encode.specs.Encoding.{AreTrueOf, IsComposed, MeansGraph}
+use Rattle.wac_graph_encode.specs.Encoding.{AreTrueOf, IsComposed, IsOversized, MeansGraph}
 use Rattle.wac_graph_encode.specs.Formed.{IsFormed, AreFormed}
-use Rattle.wac_graph_encode.specs.Finished.{AreInstantiated, IsPrepared, MeansAsked, MeansImported, MeansNested, NestsBytes, NestsSo}
+use Rattle.wac_graph_encode.specs.Finished.{AreInstantiated, IsPrepared, IsThere, IsUnfit, MeansAsked, MeansImported, MeansNested, NestsBytes, NestsSo, UnfitAsked}
 use Rattle.wac_graph_encode.specs.Nesting.{IsTold}
 use Rattle.wac_graph_encode.proofs.Importable.{importable}
-use Rattle.wac_graph_encode.proofs.Nested.{with_among, nests_packages}
+use Rattle.wac_graph_encode.proofs.Nested.{with_among, nest_packages, nests_packages}
 use Rattle.wac_graph_encode.proofs.StandingWirings.{zip_on}
 use Rattle.wac_graph_encode.proofs.RootedDefinitions.{nodes_of_definitions}
 
@@ -106,9 +107,8 @@ module _ (g : Graph) (a : Asked) (o : Outers) (h : IsPrepared g a o) where
 
   module _ (sound : IsGraph g) (finite_types : IsAcyclic g.types) where
     -- with the definitions formed in a collection that has grown
-    module _ (options : EncodeOptions) (new : Asked) (definitions : Vec Definition Global) (bytes : Vec ℕ Global) (grows : Grows a.types new.types) (packages : new.packages ≡ a.packages)
-        (formed : AreFormed g.types new.types a.definitions.items definitions.items) (means : MeansAsked {E = Unwritten} g new o definitions.items options (Ok bytes))
-        (nests : NestsSo {E = Unwritten} options.define_components g (names_of new.packages.entries) (Ok bytes)) where
+    module _ (options : EncodeOptions) (new : Asked) (definitions : Vec Definition Global) (grows : Grows a.types new.types) (packages : new.packages ≡ a.packages)
+        (formed : AreFormed g.types new.types a.definitions.items definitions.items) where
       abbrev ids : List PackageId
       ids = names_of new.packages.entries
 
@@ -118,19 +118,41 @@ module _ (g : Graph) (a : Asked) (o : Outers) (h : IsPrepared g a o) where
       worlds : AreWorldsOf g new.types new.packages.entries
       worlds id w m = world_kept g a.types new.types grows id w (h.worlds id w (subst (λ ps. Among (id, w) ps.entries) packages m))
 
-      composed : (d : Bool) → options.define_components ≡ d → AreToImport d g ids → IsComposed d g bytes.items
-      composed d e can = record {
-        nests = nests_packages g sound d ids bytes.items each (subst (λ b. NestsBytes b g ids bytes.items) e nests);
-        means = λ w true_of. subst (λ b. MeansGraph b g w bytes.items) e
-            (means (outers_stay _ a.types new.types h.acyclic grows o.world o.called.items h.outers, worlds, to_write new.types definitions.items formed) each
-            (subst (λ b. AreToImport b g ids) (sym e) can) w (subst (λ b. AreTold b g w ids) (sym e) (all_told d g sound finite_types w true_of ids each)));
-      }
+      there : IsThere g new o definitions.items
+      there = (outers_stay _ a.types new.types h.acyclic grows o.world o.called.items h.outers, worlds, to_write new.types definitions.items formed)
 
-      pub means_nested : MeansNested g options bytes.items
-      means_nested define = composed true define tt
+      module _ (bytes : Vec ℕ Global) (means : MeansAsked {E = BytesError} g new o definitions.items options (Ok bytes)) (nests : NestsSo {E = BytesError} options.define_components g ids (Ok bytes)) where
+        composed : (d : Bool) → options.define_components ≡ d → AreToImport d g ids → IsComposed d g bytes.items
+        composed d e can = record {
+          nests = nests_packages g sound d ids bytes.items each (subst (λ b. NestsBytes b g ids bytes.items) e nests);
+          means = λ w true_of. subst (λ b. MeansGraph b g w bytes.items) e
+              (means there each (subst (λ b. AreToImport b g ids) (sym e) can) w (subst (λ b. AreTold b g w ids) (sym e) (all_told d g sound finite_types w true_of ids each)));
+        }
 
-      pub means_imported : HasNoneAlike options g → MeansImported g options bytes.items
-      means_imported alike define names = composed false define (importable g sound options ids define alike names each)
+        pub means_nested : MeansNested g options bytes.items
+        means_nested define = composed true define tt
+
+        pub means_imported : HasNoneAlike options g → MeansImported g options bytes.items
+        means_imported alike define names = composed false define (importable g sound options ids define alike names each)
+
+      -- entries that do not fit
+      module _ (fits : FitsProcessor options) (unfit : UnfitAsked {A = Vec ℕ Global} g new o definitions.items options (Err BytesError.TooLarge)) (large : IsTooLarge g) where
+        oversized : (d : Bool) → options.define_components ≡ d → AreToImport d g ids → IsOversized d g
+        oversized d e can =
+            let u : IsUnfit d g ids = subst (λ b. IsUnfit b g ids) e (unfit fits there each (subst (λ b. AreToImport b g ids) (sym e) can)) in
+            record {
+              entries = u.entries;
+              nest = nest_packages g sound d ids u.entries each u.nested;
+              state = λ w true_of. u.state w (all_told d g sound finite_types w true_of ids each);
+              unfit = u.unfit;
+            }
+
+        pub past_size : IsPastSize options g
+        past_size = record {
+          large = large;
+          nested = λ define. oversized true define tt;
+          imported = λ define names alike. oversized false define (importable g sound options ids define alike names each);
+        }
 
     -- all is there of which the world is made
     pub to_hand_out : (new : Collection) (definitions : List Definition) → Grows a.types new → AreFormed g.types new a.definitions.items definitions → IsToHandOut g new o definitions

@@ -1,6 +1,6 @@
 -- Refusals are for the first cause.
-use Rattle.std.specs.Prelude.{Result, Ok, Err, OnOk}
-use Rattle.std.proofs.Common.{◌≡◌, ℕ, [], Option, Some, None, string_bytes, sym, ap, subst, ◌∙◌}
+use Rattle.std.specs.Prelude.{◌⊎◌, Result, Ok, Err, OnOk}
+use Rattle.std.proofs.Common.{◌≡◌, ℕ, [], Option, Some, None, string_bytes, inl, inr, refl, ap, ◌∙◌}
 use Rattle.wac_graph_core.specs.Graph.{Graph}
 use Rattle.wac_composition.specs.Asks.{asks_of}
 use Rattle.wac_composition.specs.OuterImports.{outer_imports}
@@ -15,9 +15,16 @@ use Rattle.wac_graph_causes.specs.Refusals.{outer_refusal, unwritten_refusal}
 use Rattle.wac_graph_causes.specs.Implicit.{implicit_cause, IsImplicit}
 use Rattle.wac_graph_causes.specs.Alike.{IsAlike}
 use Rattle.wac_graph_causes.specs.Unwritable.{TellsUnwritable, TellsUnwritten, unwritten_cause}
-use Rattle.wac_graph_causes.specs.Sizes.{Confirms, TellsLarge}
+use Rattle.wac_graph_causes.specs.Sizes.{IsTooLarge}
+use Rattle.wac_graph_encode.specs.declared.fault.BytesError.{BytesError}
 use Rattle.wac_graph_encode.specs.declared.options.EncodeOptions.{EncodeOptions}
-use Rattle.wac_graph_encode.specs.Refused.{cause_in, HasNoneAlike, HasNoneClashing, HasNoneFound, IsFree, IsRefusedFor, IsToldFor, waiting_cause, IsOfSizeOrMemory}
+use Rattle.wac_graph_encode.specs.Faults.{bytes_refusal}
+use Rattle.wac_graph_encode.specs.Finished.{IfOfSize}
+use Rattle.wac_graph_encode.specs.Refused.{cause_in, HasLargeProcessor, HasNoneAlike, HasNoneClashing, HasNoneFound, IsFree, IsPastSize, IsRefusedFor, waiting_cause}
+
+pub if_of_size : {P Q : Type 0} (f : BytesError) → (P → Q) → IfOfSize P f → IfOfSize Q f
+if_of_size BytesError.TooLarge more h = more h
+if_of_size BytesError.Memory more h = tt
 
 module _ (options : EncodeOptions) (g : Graph) where
   abbrev conflicts : Option (Cause ℕ)
@@ -57,58 +64,42 @@ module _ (options : EncodeOptions) (g : Graph) where
   implicit_refused (Refusal.ExplicitImportConflict n first second) h = absurd h
   implicit_refused (Refusal.ImportTypeMergeConflict n first second source) h = absurd h
   implicit_refused (Refusal.TypeCannotBeWritten n) h = absurd h
-  implicit_refused Refusal.TooLarge h = tt
+  implicit_refused Refusal.TooLarge h = absurd h
   implicit_refused (Refusal.ValidationFailure fault) h = absurd h
   implicit_refused Refusal.Memory h = tt
 
   pub conflict_refused : (f : OuterError) → implicit_cause g ≡ None → IfConflict f (λ cause. conflict_in g ≡ Some cause) → IsRefusedFor options g (outer_refusal f)
   conflict_refused (OuterError.ExplicitImportConflict n first second) none h = then_conflict _ none h
   conflict_refused (OuterError.ImportTypeMergeConflict n first second source) none h = then_conflict _ none h
-  conflict_refused OuterError.TooLarge none h = tt
   conflict_refused OuterError.Memory none h = tt
 
   -- a type that cannot be written by itself is the first of these causes
   pub writable_refused : (f : Unwritten) → implicit_cause g ≡ None → conflict_in g ≡ None → TellsUnwritten options.define_components g f → IsRefusedFor options g (unwritten_refusal f)
   writable_refused (Unwritten.TypeCannotBeWritten n) none free t = then_unwritten (Unwritable (string_bytes n)) (record { implicit = none; conflict = free }) t
-  writable_refused Unwritten.TooLarge none free t = tt
   writable_refused Unwritten.Memory none free t = tt
 
   -- then interfaces that wait for one another
   pub circle_refused : (f : Unwritten) → HasNoneFound options g → TellsUnwritable (waiting_cause options g) f → IsRefusedFor options g (unwritten_refusal f)
   circle_refused (Unwritten.TypeCannotBeWritten n) none t = past_unwritten none ∙ t
-  circle_refused Unwritten.TooLarge none t = tt
   circle_refused Unwritten.Memory none t = tt
 
-  pub size_refused : (f : Unwritten) → IsOfSizeOrMemory f → IsRefusedFor options g (unwritten_refusal f)
-  size_refused (Unwritten.TypeCannotBeWritten n) h = absurd h
-  size_refused Unwritten.TooLarge h = tt
-  size_refused Unwritten.Memory h = tt
+  -- then sizes: of what wrote the component, and of its entries
+  pub of_processor : (f : BytesError) → IfOfSize (HasLargeProcessor options) f → IfOfSize (HasLargeProcessor options ⊎ IsPastSize options g) f
+  of_processor f h = if_of_size f inl h
+
+  pub of_size : (f : BytesError) → IfOfSize (IsTooLarge g) f → (IsTooLarge g → f ≡ BytesError.TooLarge → IsPastSize options g) → IfOfSize (HasLargeProcessor options ⊎ IsPastSize options g) f
+  of_size BytesError.TooLarge large past = inr (past large refl)
+  of_size BytesError.Memory large past = tt
+
+  pub size_refused : (f : BytesError) → IfOfSize (HasLargeProcessor options ⊎ IsPastSize options g) f → IsRefusedFor options g (bytes_refusal f)
+  size_refused BytesError.TooLarge h = h
+  size_refused BytesError.Memory h = tt
 
   pub alike_refused : (e : Refusal) → IsAlike options.define_components options.validate g e → IsRefusedFor options g e
   alike_refused (Refusal.ImplicitImportConflict import instantiation key n) h = absurd h
   alike_refused (Refusal.ExplicitImportConflict n first second) h = absurd h
   alike_refused (Refusal.ImportTypeMergeConflict n first second source) h = absurd h
   alike_refused (Refusal.TypeCannotBeWritten n) h = absurd h
-  alike_refused Refusal.TooLarge h = tt
+  alike_refused Refusal.TooLarge h = absurd h
   alike_refused (Refusal.ValidationFailure fault) h = h
   alike_refused Refusal.Memory h = tt
-
--- what is found to be large is told so
-large_for : (options : EncodeOptions) (g : Graph) (e : Refusal) → TellsLarge g e → IsToldFor options g e
-large_for options g (Refusal.ImplicitImportConflict import instantiation key n) h = absurd h
-large_for options g (Refusal.ExplicitImportConflict n first second) h = absurd h
-large_for options g (Refusal.ImportTypeMergeConflict n first second source) h = absurd h
-large_for options g (Refusal.TypeCannotBeWritten n) h = absurd h
-large_for options g Refusal.TooLarge h = h
-large_for options g (Refusal.ValidationFailure fault) h = absurd h
-large_for options g Refusal.Memory h = tt
-
--- a refusal that is confirmed is told for what it was found
-pub confirmed_for : (options : EncodeOptions) (g : Graph) (old new : Refusal) → Confirms g old new → IsRefusedFor options g old → IsToldFor options g new
-confirmed_for options g (Refusal.ImplicitImportConflict import instantiation key n) new c h = subst (IsToldFor options g) (sym c) h
-confirmed_for options g (Refusal.ExplicitImportConflict n first second) new c h = subst (IsToldFor options g) (sym c) h
-confirmed_for options g (Refusal.ImportTypeMergeConflict n first second source) new c h = subst (IsToldFor options g) (sym c) h
-confirmed_for options g (Refusal.TypeCannotBeWritten n) new c h = subst (IsToldFor options g) (sym c) h
-confirmed_for options g Refusal.TooLarge new c h = large_for options g new c
-confirmed_for options g (Refusal.ValidationFailure fault) new c h = subst (IsToldFor options g) (sym c) h
-confirmed_for options g Refusal.Memory new c h = subst (IsToldFor options g) (sym c) h

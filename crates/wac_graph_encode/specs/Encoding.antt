@@ -1,4 +1,5 @@
 -- What encoding a graph gives, and when it is refused.
+use Rattle.std.specs.List.{list_all}
 use Rattle.std.specs.Prelude.{◌≡◌, ◌↔◌, ℕ, Bool, true, false, List, [], ◌∷◌, map, Option, Some, None, option_map}
 use Rattle.wac_types_base.specs.declared.item.ItemKind.{ItemKind}
 use Rattle.wac_types_base.specs.declared.ids.WorldId.{WorldId}
@@ -16,7 +17,8 @@ use Rattle.wac_graph_bytes.specs.Views.{view}
 use Rattle.wac_graph_bytes.specs.Spelling.{component_bytes}
 use Rattle.wac_graph_bytes.specs.Wirings.{Tag, OfBytes, OfDependency, Instantiation, Wiring, Same}
 use Rattle.wac_graph_bytes.specs.Typing.{Worlds}
-use Rattle.wac_graph_bytes.specs.Meaning.{Means}
+use Rattle.wac_graph_bytes.specs.Meaning.{Means, States}
+use Rattle.wac_graph_bytes.specs.Writing.{entry_fits}
 use Rattle.wac_graph_core.specs.declared.ids.PackageId.{PackageId}
 use Rattle.wac_graph_core.specs.Graph.{Graph, package_of, instantiated}
 use Rattle.wac_composition.specs.Conflicts.{dependency_name}
@@ -89,15 +91,18 @@ abbrev pub nested_strings : (define : Bool) → List Packaged → List (List ℕ
 nested_strings true packages = map (λ p. p.bytes) packages
 nested_strings false packages = []
 
--- The component has nested the packages that are instantiated, in some order, each once and unchanged; none where they are
--- imported.
-pub record NestsPackages (define : Bool) (g : Graph) (bytes : List ℕ) : Type 0 where
+-- The entries nest the packages that are instantiated, in some order, each once and unchanged; none where they are imported.
+pub record NestPackages (define : Bool) (g : Graph) (entries : List Entry) : Type 0 where
   pub packages : List Packaged
   pub once : AreDistinct (map package_key packages)
   pub those : (p : Packaged) → Among p packages ↔ IsInstantiated g p
+  pub nested : nested_in entries ≡ nested_strings define packages
+
+-- and so does the component with these bytes
+pub record NestsPackages (define : Bool) (g : Graph) (bytes : List ℕ) : Type 0 where
   pub sections : List Section
   pub spelled : bytes ≡ component_bytes sections
-  pub nested : nested_in (entries_of sections) ≡ nested_strings define packages
+  pub nest : NestPackages define g (entries_of sections)
 
 -- ---- the theorem
 
@@ -107,12 +112,23 @@ IsImportedIn true g p imports = Unit {0}
 IsImportedIn false g p imports =
     Among (dependency_name (package_key p), tree (stated_of g.types (ItemKind.Component p.ty))) imports
 
--- In these worlds the bytes mean the graph's wiring, of which there is one, but for the numbers of instances.
+-- It is the graph's wiring, of which there is one, but for the numbers of instances; packages that are not nested stand among
+-- the imports.
+pub record IsOfGraph (define : Bool) (g : Graph) (meant : Wiring ℕ) (imports : List (Name × Tree)) : Type 0 where
+  pub same : (W : Wiring ℕ) → IsGraphWiring g W → Same (as_written define g W) meant
+  pub packages : (p : Packaged) → IsInstantiated g p → IsImportedIn define g p imports
+
+-- In these worlds the entries state the graph's wiring.
+pub record StateGraph (define : Bool) (g : Graph) (worlds : Worlds) (entries : List Entry) : Type 0 where
+  pub meant : Wiring ℕ
+  pub states : States worlds entries meant
+  pub of : IsOfGraph define g meant states.last.listed.imports
+
+-- In these worlds the bytes mean the graph's wiring.
 pub record MeansGraph (define : Bool) (g : Graph) (worlds : Worlds) (bytes : List ℕ) : Type 0 where
   pub meant : Wiring ℕ
   pub means : Means worlds bytes meant
-  pub same : (W : Wiring ℕ) → IsGraphWiring g W → Same (as_written define g W) meant
-  pub packages : (p : Packaged) → IsInstantiated g p → IsImportedIn define g p means.last.listed.imports
+  pub of : IsOfGraph define g meant means.states.last.listed.imports
 
 -- so it is in all worlds that are true of the packages
 abbrev pub MeansWiring : (define : Bool) → Graph → List ℕ → Type 0
@@ -122,6 +138,14 @@ MeansWiring define g bytes = (worlds : Worlds) → AreTrueOf define g worlds →
 pub record IsComposed (define : Bool) (g : Graph) (bytes : List ℕ) : Type 0 where
   pub nests : NestsPackages define g bytes
   pub means : MeansWiring define g bytes
+
+-- The entries of the component do not fit: with the packages nested, or imported, they state the graph's wiring in all worlds
+-- that are true of the packages, and a count, an index, a length or a size in one of them passes 32 bits.
+pub record IsOversized (define : Bool) (g : Graph) : Type 0 where
+  pub entries : List Entry
+  pub nest : NestPackages define g entries
+  pub state : (worlds : Worlds) → AreTrueOf define g worlds → StateGraph define g worlds entries
+  pub unfit : list_all entry_fits entries ≡ false
 
 -- The world that is handed out states what the composition asks of the outside and exports, with order, identifiers and uses,
 -- and no world in it has uses of its own.

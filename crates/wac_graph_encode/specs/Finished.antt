@@ -1,8 +1,8 @@
 -- What entries mean that are finished.
-use Rattle.std.specs.Prelude.{◌≡◌, ℕ, Bool, true, false, List, [], map, None, Result, IfOk}
+use Rattle.std.specs.Prelude.{◌≡◌, ℕ, Bool, true, false, List, [], map, None, Result, IfOk, IfErr}
 use Rattle.std.specs.declared.alloc.Global.{Global}
 use Rattle.std.specs.declared.vec.Vec.{Vec}
-use Rattle.std.specs.List.{AllByRecursion}
+use Rattle.std.specs.List.{AllByRecursion, list_all}
 use Rattle.wac_types_base.specs.Entries.{Name, names_of, value_at}
 use Rattle.wac_types_base.specs.Collection.{IsAcyclic}
 use Rattle.wac_types_base.specs.Tree.{Tree}
@@ -12,6 +12,7 @@ use Rattle.wac_graph_bytes.specs.Sizes.{section_fits}
 use Rattle.wac_graph_bytes.specs.Spelling.{component_bytes}
 use Rattle.wac_graph_bytes.specs.Typing.{Worlds}
 use Rattle.wac_graph_bytes.specs.Meaning.{wiring_of}
+use Rattle.wac_graph_bytes.specs.Writing.{entry_fits}
 use Rattle.wac_graph_bytes.specs.Wirings.{Wiring, Same}
 use Rattle.wac_graph_core.specs.declared.ids.PackageId.{PackageId}
 use Rattle.wac_graph_core.specs.Graph.{Graph, IsGraph}
@@ -23,14 +24,15 @@ use Rattle.wac_graph_asks.specs.Asked.{package_ids, with_ids, placed_in}
 use Rattle.wac_graph_asks.specs.Outers.{IsOuters}
 use Rattle.wac_graph_asks.specs.Wirings.{IsGraphWiring, asked_trees}
 use Rattle.wac_graph_causes.specs.declared.errors.Refusal.{Refusal}
+use Rattle.wac_graph_encode.specs.declared.fault.BytesError.{BytesError}
 use Rattle.wac_graph_encode.specs.declared.options.EncodeOptions.{EncodeOptions}
 use Rattle.wac_graph_encode.specs.declared.instances.Wired.{Wired}
 use Rattle.wac_graph_encode.specs.declared.root.Writing.{Writing}
 use Rattle.wac_graph_encode.specs.Standing.{IsFinished}
 use Rattle.wac_graph_encode.specs.Defining.{AreToWrite}
-use Rattle.wac_graph_encode.specs.Encoding.{nested_in, HaveDependencyNames, MeansGraph, IsComposed}
+use Rattle.wac_graph_encode.specs.Encoding.{nested_in, HaveDependencyNames, MeansGraph, StateGraph, IsComposed}
 use Rattle.wac_graph_encode.specs.Formed.{AreCopied}
-use Rattle.wac_graph_encode.specs.Refused.{HasNoneAlike, HasNoneFound, IsRefusedFor, waiting_cause}
+use Rattle.wac_graph_encode.specs.Refused.{FitsProcessor, HasNoneAlike, HasNoneFound, IsRefusedFor, waiting_cause}
 use Rattle.wac_graph_encode.specs.Worlds.{IsToHandOut}
 use Rattle.wac_graph_encode.specs.Beginning.{AreTold, IsBare, IsToBegin, nested_bytes}
 use Rattle.wac_graph_encode.specs.Importing.{AreToImport, AreWorldsOf}
@@ -78,13 +80,46 @@ NestsSo define g ids r = IfOk r (λ bytes. NestsBytes define g ids bytes.items)
 abbrev pub NestsWired : {E : Type 0} → Writing → Wired → Result (Vec ℕ Global) E → Type 0
 NestsWired x old r = IsBare old.root → NestsSo x.options.now.define_components x.graph.now (names_of x.worlds.now.entries) r
 
+-- ---- entries that do not fit
+
+-- where it is for size, this holds
+abbrev pub IfOfSize : Type 0 → BytesError → Type 0
+IfOfSize P BytesError.TooLarge = P
+IfOfSize P BytesError.Memory = Unit {0}
+
+-- The entries of the component do not fit: with the packages of these ids, they state the graph's wiring in all worlds that are
+-- told of them.
+pub record IsUnfit (define : Bool) (g : Graph) (ids : List PackageId) : Type 0 where
+  pub entries : List Entry
+  pub nested : nested_in entries ≡ nested_bytes define g ids
+  pub state : (w : Worlds) → AreTold define g w ids → StateGraph define g w entries
+  pub unfit : list_all entry_fits entries ≡ false
+
+-- So it is where it is refused for size, if what is said to have written the component fits.
+abbrev pub UnfitSo : {A : Type 0} → EncodeOptions → Graph → List PackageId → (P : Type 0) → Result A BytesError → Type 0
+UnfitSo options g ids P r = FitsProcessor options → P → AreInstantiated g ids → AreToImport options.define_components g ids
+    → IfErr r (IfOfSize (IsUnfit options.define_components g ids))
+
+abbrev pub UnfitWired : {A : Type 0} → Writing → Wired → Result A BytesError → Type 0
+UnfitWired x old r = old.graph.now ≡ x.graph.now → IsBare old.root
+    → UnfitSo x.options.now x.graph.now (names_of x.worlds.now.entries) (IsToBegin x) r
+
+-- ---- what is asked
+
+-- all of it is there: the graph's outer imports, the worlds of its packages, its definitions as they are written
+abbrev pub IsThere : Graph → Asked → Outers → List Definition → Type 0
+IsThere g asked outers xs = IsOuters g asked.types outers.world outers.called.items × AreWorldsOf g asked.types asked.packages.entries
+    × AreToWrite g asked.types xs
+
+abbrev pub UnfitAsked : {A : Type 0} → Graph → Asked → Outers → List Definition → EncodeOptions → Result A BytesError → Type 0
+UnfitAsked g asked outers xs options r =
+    UnfitSo options g (names_of asked.packages.entries) (IsThere g asked outers xs) r
+
 -- of the graph's outer imports, with its definitions in the forms in which they are written
 abbrev pub MeansAsked : {E : Type 0} → Graph → Asked → Outers → List Definition → EncodeOptions → Result (Vec ℕ Global) E
     → Type 0
 MeansAsked g asked outers xs options r =
-    MeansSo options.define_components g (names_of asked.packages.entries)
-    (IsOuters g asked.types outers.world outers.called.items × AreWorldsOf g asked.types asked.packages.entries
-    × AreToWrite g asked.types xs) r
+    MeansSo options.define_components g (names_of asked.packages.entries) (IsThere g asked outers xs) r
 
 -- ---- once all is asked
 

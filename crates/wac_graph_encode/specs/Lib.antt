@@ -1,4 +1,5 @@
 pub mod Encoding
+pub mod Faults
 pub mod Formed
 pub mod Standing
 pub mod Defining

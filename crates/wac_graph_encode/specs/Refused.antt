@@ -1,6 +1,7 @@
 -- Why a graph is refused, and what does not stand against one that is encoded.
-use Rattle.std.specs.Prelude.{◌≡◌, ℕ, Option, Some, None, string_bytes}
-use Rattle.wac_types_base.specs.Entries.{Name}
+use Rattle.std.specs.Prelude.{◌≡◌, ◌⊎◌, ℕ, true, false, Option, Some, None, option_map, string_bytes}
+use Rattle.wac_graph_bytes.specs.Views.{processor_view}
+use Rattle.wac_graph_bytes.specs.Writing.{producers_if_fit}
 use Rattle.wac_graph_core.specs.Graph.{Graph}
 use Rattle.wac_composition.specs.Asks.{asks_of}
 use Rattle.wac_composition.specs.Classes.{spelling}
@@ -9,13 +10,13 @@ use Rattle.wac_graph_asks.specs.Graphs.{composition_of}
 use Rattle.wac_graph_asks.specs.Takes.{conflict_in}
 use Rattle.wac_graph_causes.specs.declared.errors.EncodeError.{EncodeError}
 use Rattle.wac_graph_causes.specs.declared.errors.Refusal.{Refusal}
-use Rattle.wac_graph_causes.specs.declared.errors.Unwritten.{Unwritten}
 use Rattle.wac_graph_causes.specs.Refusals.{refusal_shown}
 use Rattle.wac_graph_causes.specs.Implicit.{IsKeyOf, implicit_cause}
 use Rattle.wac_graph_causes.specs.Alike.{names_told, alike_cause}
 use Rattle.wac_graph_causes.specs.Unwritable.{outers_of, unwritten_cause}
 use Rattle.wac_graph_causes.specs.Sizes.{IsTooLarge}
 use Rattle.wac_graph_encode.specs.declared.options.EncodeOptions.{EncodeOptions}
+use Rattle.wac_graph_encode.specs.Encoding.{HaveDependencyNames, IsOversized}
 
 module _ (options : EncodeOptions) (g : Graph) where
   -- the first cause that stands against the composition
@@ -30,37 +31,8 @@ module _ (options : EncodeOptions) (g : Graph) where
   abbrev pub waiting_cause : Option (Cause ℕ)
   waiting_cause = circle_cause options.define_components (composition_of g) (spelling (asks_of (composition_of g))) (outers_of g)
 
-  -- The error tells the first cause, or the first names that are alike; of sizes nothing is said yet.
-  abbrev pub IsFoundFor : EncodeError → Type 0
-  IsFoundFor (EncodeError.ImplicitImportConflict import instantiation key n) =
-      (cause_in ≡ Some (ImplicitImport (string_bytes n) import instantiation)) × IsKeyOf g instantiation key
-  IsFoundFor (EncodeError.ExplicitImportConflict n first second) = cause_in ≡ Some (ExplicitImport (string_bytes n) first second)
-  IsFoundFor (EncodeError.ImportTypeMergeConflict n first second source) =
-      cause_in ≡ Some (ImportTypes (string_bytes n) first second)
-  IsFoundFor (EncodeError.TypeCannotBeWritten n) = cause_in ≡ Some (Unwritable (string_bytes n))
-  IsFoundFor (EncodeError.ValidationFailure fault) =
-      alike_cause options.define_components options.validate g ≡ Some (names_told fault)
-  IsFoundFor (EncodeError.GraphContainsCycle node) = ⊥
-  IsFoundFor e = Unit {0}
-
-  abbrev pub IsRefusedFor : Refusal → Type 0
-  IsRefusedFor e = IsFoundFor (refusal_shown e)
-
-  -- and what is too large is so; of memory nothing is said
-  abbrev pub IsErrorFor : EncodeError → Type 0
-  IsErrorFor EncodeError.TooLarge = IsTooLarge g
-  IsErrorFor e = IsFoundFor e
-
-  abbrev pub IsToldFor : Refusal → Type 0
-  IsToldFor e = IsErrorFor (refusal_shown e)
-
   abbrev pub HasNoneAlike : Type 0
   HasNoneAlike = alike_cause options.define_components options.validate g ≡ None
-
--- something was too large, or memory was short
-abbrev pub IsOfSizeOrMemory : Unwritten → Type 0
-IsOfSizeOrMemory (Unwritten.TypeCannotBeWritten n) = ⊥
-IsOfSizeOrMemory e = Unit {0}
 
 -- no import is asked by its name and by an instance, and none conflict
 pub record HasNoneClashing (g : Graph) : Type 0 where
@@ -76,3 +48,39 @@ pub record HasNoneFound (options : EncodeOptions) (g : Graph) : Type 0 where
 pub record IsFree (options : EncodeOptions) (g : Graph) : Type 0 where
   pub cause : cause_in options g ≡ None
   pub alike : HasNoneAlike options g
+
+-- ---- sizes
+
+-- what is said to have written the component does not fit in 32 bits
+abbrev pub HasLargeProcessor : EncodeOptions → Type 0
+HasLargeProcessor options = producers_if_fit (option_map processor_view options.processor) ≡ false
+
+abbrev pub FitsProcessor : EncodeOptions → Type 0
+FitsProcessor options = producers_if_fit (option_map processor_view options.processor) ≡ true
+
+-- The composition or a package is large, and the entries of the component do not fit.
+pub record IsPastSize (options : EncodeOptions) (g : Graph) : Type 0 where
+  pub large : IsTooLarge g
+  pub nested : options.define_components ≡ true → IsOversized true g
+  pub imported : options.define_components ≡ false → HaveDependencyNames g → HasNoneAlike options g → IsOversized false g
+
+-- ---- refusals
+
+-- The error tells the first cause, or that the component passes 32 bits, or the first names that are alike. Of want of memory
+-- nothing is said.
+abbrev pub IsErrorFor : EncodeOptions → Graph → EncodeError → Type 0
+IsErrorFor options g (EncodeError.ImplicitImportConflict import instantiation key n) =
+    (cause_in options g ≡ Some (ImplicitImport (string_bytes n) import instantiation)) × IsKeyOf g instantiation key
+IsErrorFor options g (EncodeError.ExplicitImportConflict n first second) =
+    cause_in options g ≡ Some (ExplicitImport (string_bytes n) first second)
+IsErrorFor options g (EncodeError.ImportTypeMergeConflict n first second source) =
+    cause_in options g ≡ Some (ImportTypes (string_bytes n) first second)
+IsErrorFor options g (EncodeError.TypeCannotBeWritten n) = cause_in options g ≡ Some (Unwritable (string_bytes n))
+IsErrorFor options g EncodeError.TooLarge = HasLargeProcessor options ⊎ IsPastSize options g
+IsErrorFor options g (EncodeError.ValidationFailure fault) =
+    alike_cause options.define_components options.validate g ≡ Some (names_told fault)
+IsErrorFor options g (EncodeError.GraphContainsCycle node) = ⊥
+IsErrorFor options g EncodeError.Memory = Unit {0}
+
+abbrev pub IsRefusedFor : EncodeOptions → Graph → Refusal → Type 0
+IsRefusedFor options g e = IsErrorFor options g (refusal_shown e)

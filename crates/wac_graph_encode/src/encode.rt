@@ -1,8 +1,11 @@
 //! The bytes and the world of a composition graph.
 
-ghost use Rattle.std.specs.Prelude.{◌≡◌, [], None, IfOk, IfErr, OnOk, map};
+ghost use Rattle.std.specs.Prelude.{◌≡◌, [], None, IfOk, IfErr, OnOk, map, true, false};
 ghost use Rattle.wac_types_base.specs.Entries.{names_of};
-ghost use Rattle.wac_graph_bytes.specs.Views.{view};
+ghost use Rattle.std.specs.List.{list_all};
+ghost use Rattle.wac_graph_bytes.specs.Views.{all_names_view, view};
+ghost use Rattle.wac_graph_bytes.specs.Writing.{debug_if_fits, entry_fits};
+ghost use Rattle.wac_graph_causes.specs.Sizes.{IsTooLarge};
 ghost use Rattle.wac_graph_core.specs.Graph.{Graph};
 ghost use Rattle.wac_graph_asks.specs.Asked.{IsAsked, KeepsAsked};
 ghost use Rattle.wac_graph_asks.specs.AskedUses.{CopiesStand};
@@ -11,11 +14,13 @@ ghost use Rattle.wac_graph_causes.specs.Acyclic.{IsNoCycle};
 ghost use Rattle.wac_graph_causes.specs.Circling.{PackagesStand};
 ghost use Rattle.wac_graph_encode.specs.Encoding.{HasTrueWorld};
 ghost use Rattle.wac_graph_encode.specs.Worlds.{IsToHandOut};
-ghost use Rattle.wac_graph_encode.specs.Refused.{HasNoneAlike, HasNoneClashing, HasNoneFound, HasNoneUnwritten, IsErrorFor, IsFree, IsRefusedFor, IsOfSizeOrMemory};
-ghost use Rattle.wac_graph_encode.specs.Refused.{IsToldFor, waiting_cause};
+ghost use Rattle.wac_graph_encode.specs.Refused.{FitsProcessor, HasLargeProcessor, HasNoneAlike, HasNoneClashing, HasNoneFound, HasNoneUnwritten};
+ghost use Rattle.wac_graph_encode.specs.Refused.{IsErrorFor, IsFree, IsRefusedFor, waiting_cause};
+ghost use Rattle.wac_graph_encode.specs.Finished.{IfOfSize, UnfitAsked, UnfitWired};
 ghost use Rattle.wac_graph_encode.specs.Finished.{AreSpelled, IsPrepared, MeansAsked, MeansImported, MeansNested, MeansWired, NestsSo, NestsWired};
 ghost use Rattle.wac_graph_encode.specs.Finished.{PreparedHands, PreparedImports, PreparedMeans, PreparedWaits, RefusesPrepared};
 
+use crate::fault::BytesError;
 use crate::forms::written_definitions;
 use crate::instances::Wired;
 use crate::options::{EncodeOptions, Encoded};
@@ -24,37 +29,66 @@ use crate::world::composed_world;
 use std::alloc::{AllocError, Global};
 use wac_graph_asks::asks::{Asked, Definition, asked_by};
 use wac_graph_asks::outers::{Outers, outers_of};
-use wac_graph_bytes::{Entry, SortNames, push_component};
+use wac_graph_bytes::{
+    Entry, SizeError, SortNames, push_component, push_debug_names, push_producers,
+};
 use wac_graph_causes::circles::check_circles;
-use wac_graph_causes::errors::{EncodeError, Refusal, Unwritten, error_of};
+use wac_graph_causes::errors::{EncodeError, Refusal, error_of};
 use wac_graph_causes::implicit::check_implicit;
 use wac_graph_causes::names::check_names;
-use wac_graph_causes::sizes::confirmed;
+use wac_graph_causes::sizes::tells_too_large;
 use wac_graph_causes::writable::check_writable;
 use wac_graph_core::CompositionGraph;
 use wac_graph_scopes::imports::Importing;
 use wac_types_base::{Types, WorldId};
 
+/// The names for debuggers, or none where they do not fit in 32 bits: no component is refused for them.
+fn names_that_fit(alloc: Global, names: Vec<SortNames>) -> Result<Vec<SortNames>, AllocError>
+    ensures { IfOk result (λ ns. debug_if_fits (all_names_view ns.items) ≡ true) }
+{
+    let mut section = Vec::new(alloc);
+    match push_debug_names(alloc, &mut section, &names) {
+        Ok(()) => Ok(names),
+        Err(SizeError::TooLarge) => Ok(Vec::new(alloc)),
+        Err(SizeError::Memory) => Err(AllocError),
+    }
+}
+
+/// That what is said to have written the component fits in 32 bits.
+fn check_processor(alloc: Global, options: &EncodeOptions) -> Result<(), BytesError>
+    ensures fits { OnOk result (FitsProcessor options.now) }
+    ensures refused { IfErr result (IfOfSize (HasLargeProcessor options.now)) }
+{
+    let mut section = Vec::new(alloc);
+    if let Some(processor) = options.processor.as_ref() {
+        push_producers(alloc, &mut section, processor)?;
+    }
+    Ok(())
+}
+
 /// The bytes of a component of these entries.
 fn bytes_of_entries(
     alloc: Global,
     entries: &[Entry],
-    names: &[SortNames],
+    names: Vec<SortNames>,
     options: &EncodeOptions,
-) -> Result<Vec<u8>, Unwritten>
-    ensures { IfOk result (λ bytes. AreSpelled (map view entries.now) bytes.items) }
+) -> Result<Vec<u8>, BytesError>
+    ensures spelled { IfOk result (λ bytes. AreSpelled (map view entries.now) bytes.items) }
+    ensures unfit { FitsProcessor options.now → IfErr result (IfOfSize (list_all entry_fits (map view entries.now) ≡ false)) }
 {
+    let names = names_that_fit(alloc, names)?;
     let mut bytes = Vec::new(alloc);
     let processor = options.processor.as_ref();
-    push_component(alloc, &mut bytes, entries, processor, names)?;
+    push_component(alloc, &mut bytes, entries, processor, &names)?;
     Ok(bytes)
 }
 
 /// The bytes of a composition, where nothing of it is written yet.
-fn bytes_wired(writing: Writing<'_>, wired: &mut Wired<'_>) -> Result<Vec<u8>, Unwritten>
+fn bytes_wired(writing: Writing<'_>, wired: &mut Wired<'_>) -> Result<Vec<u8>, BytesError>
     requires { wired.old.outers ≡ [] }
     ensures means { MeansWired writing.entry wired.old result }
     ensures nests { NestsWired writing.entry wired.old result }
+    ensures unfit { UnfitWired writing.entry wired.old result }
 {
     writing.graph.see_sound();
     writing.graph.types().see_acyclic();
@@ -62,7 +96,7 @@ fn bytes_wired(writing: Writing<'_>, wired: &mut Wired<'_>) -> Result<Vec<u8>, U
     write_root(writing, &mut wired.root)?;
     let names = wired.write_all(writing.all.called)?;
     let alloc = writing.graph.alloc();
-    bytes_of_entries(alloc, &wired.root.entries, &names, writing.options)
+    bytes_of_entries(alloc, &wired.root.entries, names, writing.options)
 }
 
 /// The bytes of a composition.
@@ -72,9 +106,10 @@ fn bytes_of(
     outers: &Outers,
     definitions: &[Definition],
     options: &EncodeOptions,
-) -> Result<Vec<u8>, Unwritten>
+) -> Result<Vec<u8>, BytesError>
     ensures means { MeansAsked graph.now asked.now outers.now definitions.now options.now result }
     ensures nests { NestsSo options.now.define_components graph.now (names_of asked.now.packages.entries) result }
+    ensures unfit { UnfitAsked graph.now asked.now outers.now definitions.now options.now result }
 {
     let all = Importing {
         types: &asked.types,
@@ -92,15 +127,15 @@ fn bytes_of(
     bytes_wired(writing, &mut wired)
 }
 
-/// What writing refused of a composition against which no cause stands: no type of it is known that is not written, and no
-/// contract says so. Then want of memory is told in the end.
-fn size_told(fault: Unwritten) -> Unwritten
-    ensures { IsOfSizeOrMemory result }
+/// That the entries of a graph do not fit. Where nothing of the graph is large, no entries of it are known that do not, but no
+/// contract says so; then want of memory is told.
+fn size_told(graph: &CompositionGraph) -> BytesError
+    ensures { IfOfSize (IsTooLarge graph.now) result }
 {
-    match fault {
-        Unwritten::TypeCannotBeWritten { name: _ } => Unwritten::TooLarge,
-        Unwritten::TooLarge => Unwritten::TooLarge,
-        Unwritten::Memory => Unwritten::Memory,
+    match tells_too_large(graph.alloc(), graph) {
+        Ok(true) => BytesError::TooLarge,
+        Ok(false) => BytesError::Memory,
+        Err(_) => BytesError::Memory,
     }
 }
 
@@ -111,14 +146,16 @@ fn bytes_told(
     outers: &Outers,
     definitions: &[Definition],
     options: &EncodeOptions,
-) -> Result<Vec<u8>, Unwritten>
+) -> Result<Vec<u8>, BytesError>
     ensures means { MeansAsked graph.now asked.now outers.now definitions.now options.now result }
     ensures nests { NestsSo options.now.define_components graph.now (names_of asked.now.packages.entries) result }
-    ensures refused { IfErr result IsOfSizeOrMemory }
+    ensures unfit { UnfitAsked graph.now asked.now outers.now definitions.now options.now result }
+    ensures large { IfErr result (IfOfSize (IsTooLarge graph.now)) }
 {
     match bytes_of(graph, asked, outers, definitions, options) {
         Ok(bytes) => Ok(bytes),
-        Err(fault) => Err(size_told(fault)),
+        Err(BytesError::TooLarge) => Err(size_told(graph)),
+        Err(BytesError::Memory) => Err(BytesError::Memory),
     }
 }
 
@@ -167,6 +204,7 @@ fn bytes_asked(
         &definitions,
         options.define_components,
     )?;
+    check_processor(alloc, options)?;
     let bytes = bytes_told(graph, asked, outers, &definitions, options)?;
     check_names(
         alloc,
@@ -225,8 +263,8 @@ fn outers_checked(
     Ok(outers)
 }
 
-/// The bytes and the world of a graph. Of sizes nothing is found yet.
-fn encoded_first(
+/// The bytes and the world of a graph.
+fn encoded(
     graph: &CompositionGraph,
     options: &EncodeOptions,
     numbers: (u64, u64),
@@ -241,26 +279,6 @@ fn encoded_first(
     let mut asked = asked_by(graph.alloc(), graph, numbers.0)?;
     let outers = outers_checked(graph, options, &mut asked)?;
     encoded_asked(graph, options, &mut asked, &outers, numbers.1)
-}
-
-/// The bytes and the world of a graph. A refusal as too large is told only of a graph that is; else, where something passed 32
-/// bits or no way was found to write a type, want of memory is told: no graph is known of which it is.
-fn encoded(
-    graph: &CompositionGraph,
-    options: &EncodeOptions,
-    numbers: (u64, u64),
-) -> Result<Encoded, Refusal>
-    ensures means { IfOk result (λ e. MeansNested graph.now options.now e.bytes.items) }
-    ensures imports { IfOk result (λ e. MeansImported graph.now options.now e.bytes.items) }
-    ensures free { OnOk result (IsFree options.now graph.now) }
-    ensures refused { IfErr result (IsToldFor options.now graph.now) }
-    ensures number { IfOk result (λ e. e.types.number ≡ numbers.1) }
-    ensures world { IfOk result (λ e. HasTrueWorld graph.now e.types e.world) }
-{
-    match encoded_first(graph, options, numbers) {
-        Ok(encoded) => Ok(encoded),
-        Err(refusal) => Err(confirmed(graph.alloc(), graph, refusal)),
-    }
 }
 
 /// Two numbers that are not this one.

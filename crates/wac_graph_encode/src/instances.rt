@@ -17,7 +17,6 @@ use indexmap::IndexMap;
 use std::alloc::{AllocError, Global};
 use wac_graph_asks::nodes::{Arguments, import_name, kind_of, package_of, world_at};
 use wac_graph_bytes::{Entry, Export, NamedIndex, Sort, SortNames};
-use wac_graph_causes::errors::Unwritten;
 use wac_graph_core::{CompositionGraph, NodeId, PackageId};
 use wac_graph_scopes::imports::{Called, SortIndex};
 use wac_graph_scopes::parts::{import_at, import_count};
@@ -322,7 +321,7 @@ impl<'a> Wired<'a> {
     }
 
     /// The sort of an alias, the index of its source and its name there, where its source stands.
-    fn alias_of(&self, node: NodeId) -> Option<(Sort, u32, &'a str)>
+    fn alias_of(&self, node: NodeId) -> Option<(Sort, u64, &'a str)>
         ensures { IfSome result (λ x. IsAliasAt self.now node x.0 x.1 x.2.now) }
     {
         let Some(found) = self.graph.get_alias_source(node) else {
@@ -338,7 +337,7 @@ impl<'a> Wired<'a> {
     }
 
     /// Writes an alias, where its source stands.
-    fn alias(&mut self, node: NodeId) -> Result<Option<SortIndex>, Unwritten>
+    fn alias(&mut self, node: NodeId) -> Result<Option<SortIndex>, AllocError>
         ensures writes { WritesNode node self.old self.new result }
         ensures same { OnOk result (IsSameRoot self.old self.new) }
         ensures nodes { OnOk result (self.new.root.nodes ≡ self.old.root.nodes) }
@@ -373,7 +372,11 @@ impl<'a> Wired<'a> {
     }
 
     /// Writes an instance, where its arguments stand.
-    fn instance(&mut self, id: PackageId, bound: &Arguments) -> Result<Option<SortIndex>, Unwritten>
+    fn instance(
+        &mut self,
+        id: PackageId,
+        bound: &Arguments,
+    ) -> Result<Option<SortIndex>, AllocError>
         ensures writes { WritesInstance id bound.now self.old self.new result }
         ensures same { OnOk result (IsSameRoot self.old self.new) }
         ensures nodes { OnOk result (self.new.root.nodes ≡ self.old.root.nodes) }
@@ -393,7 +396,7 @@ impl<'a> Wired<'a> {
     }
 
     /// Writes a node, where all stands that it needs.
-    fn written(&mut self, node: NodeId, bound: &Arguments) -> Result<Option<SortIndex>, Unwritten>
+    fn written(&mut self, node: NodeId, bound: &Arguments) -> Result<Option<SortIndex>, AllocError>
         requires { AreArguments self.old.graph.now node bound.now }
         ensures writes { WritesNode node self.old self.new result }
         ensures same { OnOk result (IsSameRoot self.old self.new) }
@@ -422,7 +425,7 @@ impl<'a> Wired<'a> {
     /// Writes a node behind those that it needs, unless it stands. No path of nodes is longer than there are nodes,
     /// since none needs itself, so the depth that is left lasts.
     #[cycle(nodes)]
-    fn write_node(&mut self, node: NodeId, depth: usize) -> Result<(), Unwritten>
+    fn write_node(&mut self, node: NodeId, depth: usize) -> Result<(), AllocError>
         ensures writes { KeepsWritten self.old self.new result }
         ensures keeps { OnOk result (KeepsNodes self.old self.new) }
         ensures only { OnOk result (AddsOnly (UpTo node) self.old self.new) }
@@ -442,7 +445,7 @@ impl<'a> Wired<'a> {
         node: NodeId,
         bound: &Arguments,
         depth: usize,
-    ) -> Result<(), Unwritten>
+    ) -> Result<(), AllocError>
         requires bound { AreArguments self.old.graph.now node bound.now }
         requires new { Among node (names_of (noted self.old)) → ⊥ }
         ensures writes { KeepsWritten self.old self.new result }
@@ -462,7 +465,7 @@ impl<'a> Wired<'a> {
         node: NodeId,
         bound: &Arguments,
         depth: usize,
-    ) -> Result<(), Unwritten>
+    ) -> Result<(), AllocError>
         requires { AreArguments self.old.graph.now node bound.now }
         ensures writes { KeepsWritten self.old self.new result }
         ensures keeps { OnOk result (KeepsNodes self.old self.new) }
@@ -474,7 +477,7 @@ impl<'a> Wired<'a> {
 
     /// Writes nodes behind those that they need.
     #[cycle(nodes)]
-    fn write_each(&mut self, nodes: &[NodeId], depth: usize) -> Result<(), Unwritten>
+    fn write_each(&mut self, nodes: &[NodeId], depth: usize) -> Result<(), AllocError>
         ensures writes { KeepsWritten self.old self.new result }
         ensures keeps { OnOk result (KeepsNodes self.old self.new) }
         ensures only { OnOk result (AddsOnly (UpToOne nodes.now) self.old self.new) }
@@ -486,7 +489,7 @@ impl<'a> Wired<'a> {
     }
 
     /// Writes a node where those that it needs stand.
-    fn write_itself(&mut self, node: NodeId, bound: &Arguments) -> Result<(), Unwritten>
+    fn write_itself(&mut self, node: NodeId, bound: &Arguments) -> Result<(), AllocError>
         requires bound { AreArguments self.old.graph.now node bound.now }
         requires new { Among node (names_of (noted self.old)) → ⊥ }
         ensures writes { KeepsWritten self.old self.new result }
@@ -500,12 +503,12 @@ impl<'a> Wired<'a> {
                 Ok(())
             }
             // Each node that others need stands by now: imports are outer imports, definitions are written.
-            None => Err(Unwritten::TooLarge),
+            None => Err(AllocError),
         }
     }
 
     /// Writes all nodes, each behind those that it needs.
-    fn write_nodes(&mut self) -> Result<(), Unwritten>
+    fn write_nodes(&mut self) -> Result<(), AllocError>
         ensures writes { KeepsWritten self.old self.new result }
         ensures keeps { OnOk result (KeepsNodes self.old self.new) }
         ensures all { OnOk result (AllAreWritten self.new.graph.now (noted self.new)) }
@@ -518,7 +521,7 @@ impl<'a> Wired<'a> {
     }
 
     /// Writes all that stands behind the root's types and imports; the names of nodes.
-    pub(crate) fn write_all(&mut self, called: &[Called]) -> Result<Vec<SortNames>, Unwritten>
+    pub(crate) fn write_all(&mut self, called: &[Called]) -> Result<Vec<SortNames>, AllocError>
         requires { self.old.outers ≡ [] }
         ensures finishes { Finishes called.now self.old self.new result }
         ensures nests { OnOk result (NestsNoMore self.old.root self.new.root) }

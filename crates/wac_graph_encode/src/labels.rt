@@ -19,7 +19,7 @@ fn name_of(graph: &CompositionGraph, node: NodeId) -> Option<&str> {
 fn push_name(
     alloc: Global,
     names: &mut Vec<IndexName>,
-    index: u32,
+    index: u64,
     name: &str,
 ) -> Result<(), AllocError> {
     let name = String::from_str(alloc, name)?;
@@ -31,9 +31,9 @@ fn push_name(
 fn name_node(
     graph: &CompositionGraph,
     names: &mut Vec<IndexName>,
-    named: &mut IndexSet<u32>,
+    named: &mut IndexSet<u64>,
     node: NodeId,
-    index: u32,
+    index: u64,
 ) -> Result<(), AllocError> {
     if named.contains(&index) {
         return Ok(());
@@ -51,7 +51,7 @@ fn name_unnamed(
     nodes: &IndexMap<NodeId, SortIndex>,
     sort: Sort,
     names: &mut Vec<IndexName>,
-    named: &mut IndexSet<u32>,
+    named: &mut IndexSet<u64>,
 ) -> Result<(), AllocError> {
     for (node, place) in nodes.iter() {
         if place.sort == sort {

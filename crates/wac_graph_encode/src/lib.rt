@@ -3,6 +3,7 @@
 
 mod copying;
 pub mod encode;
+mod fault;
 mod forms;
 mod instances;
 mod labels;

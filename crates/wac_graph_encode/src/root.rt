@@ -10,7 +10,7 @@ ghost use Rattle.wac_graph_bytes.specs.Views.{view, before, declarations_of};
 ghost use Rattle.wac_graph_bytes.specs.Typing.{Scope, Worlds};
 ghost use Rattle.wac_graph_scopes.specs.Scopes.{AreKnown};
 ghost use Rattle.wac_graph_scopes.specs.Items.{HasEntry};
-ghost use Rattle.wac_graph_scopes.specs.Imports.{WritesImport, WritesInOrder};
+ghost use Rattle.wac_graph_scopes.specs.Imports.{WritesInOrder};
 ghost use Rattle.wac_graph_scopes.specs.Roots.{root_entries};
 ghost use Rattle.wac_graph_encode.specs.Standing.{counted, CountsOne};
 ghost use Rattle.wac_graph_encode.specs.Writing.{AddsEntry, AddsIndex, AddsInstance};
@@ -26,24 +26,23 @@ use std::alloc::{AllocError, Global};
 use wac_graph_asks::asks::Definition;
 use wac_graph_asks::nodes::package_at;
 use wac_graph_bytes::{Alias, Declaration, Description, Entry, NamedIndex, Sort};
-use wac_graph_causes::errors::{Unwritten, not_written};
 use wac_graph_causes::names::dependency_name;
 use wac_graph_core::{CompositionGraph, NodeId, PackageId};
 use wac_graph_scopes::fault::WriteError;
 use wac_graph_scopes::imports::{ImportScope, Importing, SortIndex, describe_alone};
 use wac_graph_scopes::items::ItemScope;
-use wac_graph_scopes::parts::{Item, import_at};
+use wac_graph_scopes::parts::Item;
 use wac_graph_scopes::scope::KnownTypes;
 use wac_types_base::{ItemKind, Types, WorldId};
 
 /// How many things of each sort stand there.
 #[derive(Clone, Copy)]
 pub(crate) struct Counts {
-    pub funcs: u32,
-    pub types: u32,
-    pub components: u32,
-    pub instances: u32,
-    pub modules: u32,
+    pub funcs: u64,
+    pub types: u64,
+    pub components: u64,
+    pub instances: u64,
+    pub modules: u64,
 }
 
 /// The entries before any instance, and what stands at their indexes.
@@ -55,7 +54,7 @@ pub(crate) struct Root {
     /// What stands for the definitions.
     pub nodes: IndexMap<NodeId, SortIndex>,
     /// The components that are packages.
-    pub packages: IndexMap<PackageId, u32>,
+    pub packages: IndexMap<PackageId, u64>,
 }
 
 impl Drop for Root {
@@ -70,14 +69,11 @@ impl Drop for Root {
     }
 }
 
-/// The number after this one.
-pub(crate) fn next_index(index: u32) -> Result<u32, Unwritten>
+/// The count after this one. No memory holds as many things as this cannot count.
+pub(crate) fn next_index(index: u64) -> Result<u64, AllocError>
     ensures { IfOk result (λ next. next ≡ index + 1) }
 {
-    match index.checked_add(1) {
-        Some(next) => Ok(next),
-        None => Err(Unwritten::TooLarge),
-    }
+    index.checked_add(1).ok_or(AllocError)
 }
 
 /// Adds an entry.
@@ -88,46 +84,27 @@ pub(crate) fn push_entry(entries: &mut Vec<Entry>, entry: Entry) -> Result<(), A
     Ok(())
 }
 
-/// The name of the outer import at a place.
-fn name_at<'a>(all: Importing<'a>, at: usize) -> &'a str {
-    match import_at(all.types, all.world, at) {
-        Some(import) => import.name,
-        None => "",
-    }
-}
-
-/// Writes the outer import at a place.
-fn write_outer(
-    alloc: Global,
-    all: Importing<'_>,
-    scope: &mut ImportScope,
-    at: usize,
-) -> Result<(), Unwritten>
-    ensures { WritesImport all.entry at scope.old scope.new result }
-{
-    match scope.write_import(alloc, all, at) {
-        Ok(()) => Ok(()),
-        Err(fault) => Err(not_written(alloc, name_at(all, at), fault)),
-    }
-}
-
 /// Writes the outer imports at places.
 fn write_in_order(
     alloc: Global,
     all: Importing<'_>,
     scope: &mut ImportScope,
     order: &[usize],
-) -> Result<(), Unwritten>
+) -> Result<(), WriteError>
     ensures { WritesInOrder all.entry order.now scope.old scope.new result }
 {
     for at in order {
-        write_outer(alloc, all, scope, *at)?;
+        scope.write_import(alloc, all, *at)?;
     }
     Ok(())
 }
 
 /// Writes the outer imports.
-fn write_outers(alloc: Global, all: Importing<'_>, scope: &mut ImportScope) -> Result<(), Unwritten>
+fn write_outers(
+    alloc: Global,
+    all: Importing<'_>,
+    scope: &mut ImportScope,
+) -> Result<(), WriteError>
     ensures { WritesOuters all.entry scope.old scope.new result }
 {
     scope.begin(alloc, all)?;
@@ -141,19 +118,13 @@ fn write_type(
     alloc: Global,
     scope: &mut ImportScope,
     all: Importing<'_>,
-    name: &str,
     item: ItemKind,
-) -> Result<Description, Unwritten>
+) -> Result<Description, WriteError>
     ensures item { WritesItem all.entry item scope.old scope.new result }
     ensures own { HasEntry item → WritesOwn all.entry scope.old scope.new result }
 {
-    if let Err(fault) = scope.prepare(alloc, all, item) {
-        return Err(not_written(alloc, name, fault));
-    }
-    match scope.describe(alloc, all.types, item) {
-        Ok(description) => Ok(description),
-        Err(fault) => Err(not_written(alloc, name, fault)),
-    }
+    scope.prepare(alloc, all, item)?;
+    scope.describe(alloc, all.types, item)
 }
 
 /// Writes a definition; its type is an entry of its own, whatever else is written. The types are known that are written
@@ -164,20 +135,16 @@ fn write_definition(
     all: Importing<'_>,
     known: &mut KnownTypes,
     definition: &Definition,
-) -> Result<Description, Unwritten>
+) -> Result<Description, WriteError>
     ensures { WritesDefinition graph.now all.entry definition.now scope.old known.old scope.new known.new result }
 {
     graph.see_sound();
     graph.types().see_acyclic();
     all.types.see_acyclic();
     let alloc = graph.alloc();
-    let name = definition.name.as_str();
     match definition.copy {
-        Some(item) => write_type(alloc, scope, all, name, item),
-        None => match scope.describe_apart(alloc, graph.types(), known, definition.ty) {
-            Ok(description) => Ok(description),
-            Err(fault) => Err(not_written(alloc, name, fault)),
-        },
+        Some(item) => write_type(alloc, scope, all, item),
+        None => scope.describe_apart(alloc, graph.types(), known, definition.ty),
     }
 }
 
@@ -221,7 +188,7 @@ fn add_definition(
     all: Importing<'_>,
     definition: &Definition,
     defined: &mut Defined,
-) -> Result<(), Unwritten>
+) -> Result<(), WriteError>
     ensures { AddsDefinitions graph.now all.entry (definition.now ∷ []) scope.old defined.old scope.new defined.new result }
 {
     let description = write_definition(graph, scope, all, &mut defined.known, definition)?;
@@ -241,7 +208,7 @@ fn add_definitions(
     all: Importing<'_>,
     definitions: &[Definition],
     defined: &mut Defined,
-) -> Result<(), Unwritten>
+) -> Result<(), WriteError>
     ensures { AddsDefinitions graph.now all.entry definitions.now scope.old defined.old scope.new defined.new result }
 {
     for definition in definitions {
@@ -257,7 +224,7 @@ fn write_definitions(
     scope: &mut ImportScope,
     all: Importing<'_>,
     definitions: &[Definition],
-) -> Result<IndexMap<NodeId, SortIndex>, Unwritten>
+) -> Result<IndexMap<NodeId, SortIndex>, WriteError>
     ensures { IfOk result (λ nodes. WritesDefinitions graph.now all.entry definitions.now scope.old scope.new nodes.entries) }
 {
     let mut defined = Defined::new(graph.alloc());
@@ -272,7 +239,7 @@ fn import_component(
     types: &Types,
     name: &str,
     world: WorldId,
-) -> Result<u32, WriteError>
+) -> Result<u64, WriteError>
     ensures imports { ImportsComponent types.now name.now world scope.old.scope scope.new.scope result }
     ensures places { scope.new.places ≡ scope.old.places }
 {
@@ -289,20 +256,16 @@ fn import_package(
     types: &Types,
     id: PackageId,
     world: WorldId,
-    packages: &mut IndexMap<PackageId, u32>,
-) -> Result<(), Unwritten>
+    packages: &mut IndexMap<PackageId, u64>,
+) -> Result<(), WriteError>
     ensures imports { ImportsPackage graph.now types.now id world scope.old packages.old scope.new packages.new result }
     ensures places { scope.new.places ≡ scope.old.places }
 {
     let alloc = graph.alloc();
     let name = dependency_name(alloc, graph, id)?;
-    match import_component(alloc, scope, types, name.as_str(), world) {
-        Ok(index) => {
-            let _ = packages.insert(id, index)?;
-            Ok(())
-        }
-        Err(fault) => Err(not_written(alloc, name.as_str(), fault)),
-    }
+    let index = import_component(alloc, scope, types, name.as_str(), world)?;
+    let _ = packages.insert(id, index)?;
+    Ok(())
 }
 
 /// Imports the packages, and adds their indexes.
@@ -311,8 +274,8 @@ fn import_packages(
     scope: &mut ImportScope,
     types: &Types,
     worlds: &IndexMap<PackageId, WorldId>,
-    packages: &mut IndexMap<PackageId, u32>,
-) -> Result<(), Unwritten>
+    packages: &mut IndexMap<PackageId, u64>,
+) -> Result<(), WriteError>
     ensures imports { ImportsAll graph.now types.now worlds.now.entries scope.old packages.old scope.new packages.new result }
     ensures places { scope.new.places ≡ scope.old.places }
 {
@@ -382,7 +345,7 @@ fn nest_package(
     root: &mut Root,
     id: PackageId,
     bytes: &[u8],
-) -> Result<(), Unwritten>
+) -> Result<(), WriteError>
     ensures { OnOk result (NestsOne id bytes.now root.old root.new) }
 {
     let index = root.counts.components;
@@ -397,7 +360,7 @@ fn nest_packages(
     graph: &CompositionGraph,
     worlds: &IndexMap<PackageId, WorldId>,
     root: &mut Root,
-) -> Result<(), Unwritten>
+) -> Result<(), WriteError>
     ensures { OnOk result (NestsAll graph.now (names_of worlds.now.entries) root.old root.new) }
 {
     for id in worlds.keys() {
@@ -442,7 +405,7 @@ impl Root {
     }
 }
 
-fn count_of(counts: &Counts, sort: Sort) -> u32
+fn count_of(counts: &Counts, sort: Sort) -> u64
     ensures { result ≡ counted counts.now sort }
 {
     match sort {
@@ -454,7 +417,7 @@ fn count_of(counts: &Counts, sort: Sort) -> u32
     }
 }
 
-fn set_count(counts: &mut Counts, sort: Sort, next: u32)
+fn set_count(counts: &mut Counts, sort: Sort, next: u64)
     ensures { (t : SortKind) → counted counts.new t ≡ (if same_sort t sort then next else counted counts.old t) }
 {
     match sort {
@@ -467,7 +430,7 @@ fn set_count(counts: &mut Counts, sort: Sort, next: u32)
 }
 
 /// The index of one more thing of a sort.
-fn count_one(counts: &mut Counts, sort: Sort) -> Result<u32, Unwritten>
+fn count_one(counts: &mut Counts, sort: Sort) -> Result<u64, AllocError>
     ensures index { IfOk result (λ k. k ≡ counted counts.old sort) }
     ensures counts { OnOk result (CountsOne sort counts.old counts.new) }
 {
@@ -479,7 +442,7 @@ fn count_one(counts: &mut Counts, sort: Sort) -> Result<u32, Unwritten>
 
 impl Root {
     /// Adds an entry that adds one thing of a sort.
-    fn add(&mut self, entry: Entry, sort: Sort) -> Result<SortIndex, Unwritten>
+    fn add(&mut self, entry: Entry, sort: Sort) -> Result<SortIndex, AllocError>
         ensures { IfOk result (AddsIndex self.old self.new (view entry) sort) }
     {
         push_entry(&mut self.entries, entry)?;
@@ -492,9 +455,9 @@ impl Root {
         &mut self,
         alloc: Global,
         sort: Sort,
-        instance: u32,
+        instance: u64,
         name: &str,
-    ) -> Result<SortIndex, Unwritten>
+    ) -> Result<SortIndex, AllocError>
         ensures { IfOk result (AddsIndex self.old self.new (Aliased (ExportAlias sort instance name.now)) sort) }
     {
         let name = String::from_str(alloc, name)?;
@@ -504,9 +467,9 @@ impl Root {
     /// Adds an instance of a component.
     pub(crate) fn add_instance(
         &mut self,
-        component: u32,
+        component: u64,
         arguments: Vec<NamedIndex>,
-    ) -> Result<SortIndex, Unwritten>
+    ) -> Result<SortIndex, AllocError>
         ensures { IfOk result (AddsInstance self.old self.new component arguments.items) }
     {
         self.add(Entry::Instantiate(component, arguments), Sort::Instance)
@@ -542,7 +505,7 @@ fn nest_behind(
     worlds: &IndexMap<PackageId, WorldId>,
     scope: &mut ImportScope,
     root: &mut Root,
-) -> Result<(), Unwritten>
+) -> Result<(), WriteError>
     ensures { OnOk result (NestsBehind graph.now (names_of worlds.now.entries) scope.old root.old root.new) }
 {
     take_scope(graph.alloc(), scope, root)?;
@@ -556,7 +519,7 @@ fn import_before(
     types: &Types,
     scope: &mut ImportScope,
     root: &mut Root,
-) -> Result<(), Unwritten>
+) -> Result<(), WriteError>
     ensures { OnOk result (ImportsBefore graph.now types.now worlds.now.entries scope.old root.old root.new) }
 {
     import_packages(graph, scope, types, worlds, &mut root.packages)?;
@@ -569,7 +532,7 @@ fn write_packages(
     writing: Writing<'_>,
     scope: &mut ImportScope,
     root: &mut Root,
-) -> Result<(), Unwritten>
+) -> Result<(), WriteError>
     ensures nests { NestsThese writing.entry root.old root.new result }
     ensures begins { Begins writing.entry scope.old root.old root.new result }
 {
@@ -582,7 +545,11 @@ fn write_packages(
 }
 
 /// Writes the types and the imports of a composition in a scope, and takes them with its packages.
-fn write_in(writing: Writing<'_>, scope: &mut ImportScope, root: &mut Root) -> Result<(), Unwritten>
+fn write_in(
+    writing: Writing<'_>,
+    scope: &mut ImportScope,
+    root: &mut Root,
+) -> Result<(), WriteError>
     requires { IsNewScope scope.old }
     ensures begins { BeginsRoot writing.entry root.old root.new result }
     ensures nests { NestsThese writing.entry root.old root.new result }
@@ -602,7 +569,7 @@ fn write_in(writing: Writing<'_>, scope: &mut ImportScope, root: &mut Root) -> R
 }
 
 /// Writes the types, the imports and the packages of a composition.
-pub(crate) fn write_root(writing: Writing<'_>, root: &mut Root) -> Result<(), Unwritten>
+pub(crate) fn write_root(writing: Writing<'_>, root: &mut Root) -> Result<(), WriteError>
     ensures begins { BeginsRoot writing.entry root.old root.new result }
     ensures nests { NestsThese writing.entry root.old root.new result }
 {

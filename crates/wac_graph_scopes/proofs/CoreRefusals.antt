@@ -1,12 +1,11 @@
 -- Core items that no description states.
-use Rattle.std.proofs.Common.{◌≡◌, ℕ, zero, suc, ◌+◌, ◌≤◌, Bool, true, List, [], ◌∷◌, length, take, map, Option, Some, refl, sym, ap, ◌∙◌, subst, arith, slice_get, inl, inr}
+use Rattle.std.proofs.Common.{◌≡◌, ℕ, zero, suc, ◌+◌, Bool, true, List, [], ◌∷◌, take, map, Option, Some, refl, sym, ap, ◌∙◌, subst, arith, slice_get, inl, inr}
 use Rattle.std.specs.Prelude.{◌⊎◌}
 use Rattle.wac_types_base.specs.declared.core_types.CoreExtern.{CoreExtern}
 use Rattle.wac_types_base.specs.declared.core_types.CoreExtern.TheVariants as extern
 use Rattle.wac_types_base.specs.declared.core_types.CoreFuncType.{CoreFuncType}
 use Rattle.wac_types_base.specs.declared.core_types.CoreRefType.{CoreRefType}
 use Rattle.wac_types_base.specs.declared.core_types.CoreType.{CoreType}
-use Rattle.std.proofs.lemmas.List.{length-map}
 use Rattle.wac_types_base.specs.declared.core_types.ModuleType.{ModuleType}
 use Rattle.wac_types_base.specs.Entries.{values_of}
 use Rattle.wac_types_base.specs.Graph.{Among}
@@ -69,26 +68,22 @@ same_fails x (y, inl e, f) = subst CoreFails e f
 same_fails x (y, inr m, f) = absurd m
 
 -- a type of a signature
-pub params_refused : (f : CoreFuncType) (n : ℕ) (e : WriteError) → TypesRefused f.params e → CoresRefused (extern.Func f ∷ []) n e
-params_refused f n WriteError.Unwritable h = (extern.Func f, inl refl, inl h)
-params_refused f n WriteError.TooLarge h = absurd h
-params_refused f n WriteError.Memory h = tt
+pub params_refused : (f : CoreFuncType) (e : WriteError) → TypesRefused f.params e → CoresRefused (extern.Func f ∷ []) e
+params_refused f WriteError.Unwritable h = (extern.Func f, inl refl, inl h)
+params_refused f WriteError.Memory h = tt
 
-pub results_refused : (f : CoreFuncType) (n : ℕ) (e : WriteError) → TypesRefused f.results e → CoresRefused (extern.Func f ∷ []) n e
-results_refused f n WriteError.Unwritable h = (extern.Func f, inl refl, inr h)
-results_refused f n WriteError.TooLarge h = absurd h
-results_refused f n WriteError.Memory h = tt
+pub results_refused : (f : CoreFuncType) (e : WriteError) → TypesRefused f.results e → CoresRefused (extern.Func f ∷ []) e
+results_refused f WriteError.Unwritable h = (extern.Func f, inl refl, inr h)
+results_refused f WriteError.Memory h = tt
 
-pub tag_refused : (f : CoreFuncType) (x : CoreExtern) (n : ℕ) (e : WriteError) → x ≡ extern.Tag f → CoresRefused (extern.Func f ∷ []) n e → CoresRefused (x ∷ []) n e
-tag_refused f x n WriteError.Unwritable is h = (extern.Tag f, inl (sym is), same_fails (extern.Func f) h)
-tag_refused f x n WriteError.TooLarge is h = h
-tag_refused f x n WriteError.Memory is h = tt
+pub tag_refused : (f : CoreFuncType) (x : CoreExtern) (e : WriteError) → x ≡ extern.Tag f → CoresRefused (extern.Func f ∷ []) e → CoresRefused (x ∷ []) e
+tag_refused f x WriteError.Unwritable is h = (extern.Tag f, inl (sym is), same_fails (extern.Func f) h)
+tag_refused f x WriteError.Memory is h = tt
 
--- an item of so many, after some
-pub one_refused : (xs : List CoreExtern) (x : CoreExtern) (s n k : ℕ) (e : WriteError) → slice_get xs k ≡ Some x → s ≤ n + k → k + 1 ≤ length xs → CoresRefused (x ∷ []) s e → CoresRefused xs n e
-one_refused xs x s n k WriteError.Unwritable at a b h = (x, among-get xs k x at, same_fails x h)
-one_refused xs x s n k WriteError.TooLarge at a b h = omega (arith, a, b, h)
-one_refused xs x s n k WriteError.Memory at a b h = tt
+-- an item of them
+pub one_refused : (xs : List CoreExtern) (x : CoreExtern) (k : ℕ) (e : WriteError) → slice_get xs k ≡ Some x → CoresRefused (x ∷ []) e → CoresRefused xs e
+one_refused xs x k WriteError.Unwritable at h = (x, among-get xs k x at, same_fails x h)
+one_refused xs x k WriteError.Memory at h = tt
 
 -- no item before fails, nor the next
 spoken_suc : (xs : List CoreExtern) (i : ℕ) (x : CoreExtern) → slice_get xs i ≡ Some x → (OneFails (take i xs) → ⊥) → (CoreFails x → ⊥) → OneFails (take (suc i) xs) → ⊥
@@ -113,12 +108,10 @@ pub spoken_module : (m : ModuleType) → (OneFails (values_of m.imports) → ⊥
 spoken_module m a b (inl h) = a h
 spoken_module m a b (inr h) = b h
 
-pub imports_refused : (m : ModuleType) (e : WriteError) → CoresRefused (values_of m.imports) 0 e → ModuleRefused m e
+pub imports_refused : (m : ModuleType) (e : WriteError) → CoresRefused (values_of m.imports) e → ModuleRefused m e
 imports_refused m WriteError.Unwritable h = inl h
-imports_refused m WriteError.TooLarge h = omega (arith, h, length-map m.imports (λ y. y.1))
 imports_refused m WriteError.Memory h = tt
 
-pub exports_refused : (m : ModuleType) (n : ℕ) (e : WriteError) → n ≤ length m.imports → CoresRefused (values_of m.exports) n e → ModuleRefused m e
-exports_refused m n WriteError.Unwritable le h = inr h
-exports_refused m n WriteError.TooLarge le h = omega (arith, le, h, length-map m.exports (λ y. y.1))
-exports_refused m n WriteError.Memory le h = tt
+pub exports_refused : (m : ModuleType) (e : WriteError) → CoresRefused (values_of m.exports) e → ModuleRefused m e
+exports_refused m WriteError.Unwritable h = inr h
+exports_refused m WriteError.Memory h = tt

@@ -1,5 +1,5 @@
 -- The parts of interfaces and worlds are inside them.
-use Rattle.std.proofs.Common.{◌≡◌, ℕ, List, [], ◌∷◌, ◌++◌, Some, slice_get, ap, inl, inr}
+use Rattle.std.proofs.Common.{◌≡◌, ℕ, ◌++◌, Some, slice_get}
 use Rattle.wac_types_base.specs.declared.ids.InterfaceId.{InterfaceId}
 use Rattle.wac_types_base.specs.declared.ids.WorldId.{WorldId}
 use Rattle.wac_types_base.specs.declared.item.ItemKind.{ItemKind}
@@ -7,7 +7,6 @@ use Rattle.wac_types_base.specs.declared.defined.UsedType.{UsedType}
 use Rattle.wac_types_base.specs.declared.defined.Interface.{Interface}
 use Rattle.wac_types_base.specs.declared.defined.World.{World}
 use Rattle.wac_types_base.specs.Record.{Collection}
-use Rattle.wac_types_base.specs.Graph.{Among}
 use Rattle.wac_types_base.specs.Entries.{Name}
 use Rattle.wac_types_base.specs.Collection.{Stands, IsAcyclic, used, items, interface_entry, world_entry}
 use Rattle.wac_types_base.proofs.Adding.{Among-left}

@@ -20,42 +20,33 @@ use Rattle.wac_types_base.proofs.Standing.{defined_found}
 use Rattle.wac_types_base.proofs.Telling.{value_source}
 use Rattle.wac_types_base.proofs.Looked.{among-get}
 use Rattle.wac_types_fit.specs.Checking.{value_in, HoldsValues}
-use Rattle.wac_graph_bytes.specs.declared.fault.SizeError.{SizeError}
 use Rattle.wac_graph_scopes.specs.declared.fault.WriteError.{WriteError}
 use Rattle.wac_graph_scopes.specs.declared.scope.TypeScope.{TypeScope}
-use Rattle.wac_graph_scopes.specs.Faults.{written_fault}
 use Rattle.wac_graph_scopes.specs.Refusals.{IsUnnamed, Dangles, part_dangles, Refused, RefusedPlace}
 
 pub if_err_map : {T E : Type 0} {P Q : E → Type 0} (r : Result T E) → ((e : E) → P e → Q e) → IfErr r P → IfErr r Q
 if_err_map (Ok x) f h = tt
 if_err_map (Err e) f h = f e h
 
--- a fault of size
-pub size_refused : (c : Collection) (k : ItemKind) (s : TypeScope) (z : SizeError) (e : WriteError) → e ≡ written_fault z → (z ≡ SizeError.TooLarge → s.types ≡ 4294967295) → Refused c k s e
-size_refused c k s SizeError.TooLarge e is full = subst (Refused c k s) (sym is) (full refl)
-size_refused c k s SizeError.Memory e is full = subst (Refused c k s) (sym is) tt
-
 pub memory_refused : (c : Collection) (k : ItemKind) (s : TypeScope) (e : WriteError) → e ≡ WriteError.Memory → Refused c k s e
 memory_refused c k s e is = subst (Refused c k s) (sym is) tt
 
--- in another scope with the same resources, no smaller
-pub refused_kept : (c : Collection) (k : ItemKind) (s u : TypeScope) (e : WriteError) → u.resources ≡ s.resources → u.types ≡ s.types → Refused c k s e → Refused c k u e
-refused_kept c k s u WriteError.Unwritable r t h = subst (λ (rs : List (Name × ℕ)). Dangles c rs k) (sym r) h
-refused_kept c k s u WriteError.TooLarge r t h = t ∙ h
-refused_kept c k s u WriteError.Memory r t h = tt
+-- in another scope with the same resources
+pub refused_kept : (c : Collection) (k : ItemKind) (s u : TypeScope) (e : WriteError) → u.resources ≡ s.resources → Refused c k s e → Refused c k u e
+refused_kept c k s u WriteError.Unwritable r h = subst (λ (rs : List (Name × ℕ)). Dangles c rs k) (sym r) h
+refused_kept c k s u WriteError.Memory r h = tt
 
-pub type_refused_kept : (c : Collection) (t : TypeKind) (s u : ItemScope) (e : WriteError) → u.types.resources ≡ s.types.resources → u.types.types ≡ s.types.types → RefusedType c t s e → RefusedType c t u e
-type_refused_kept c (TypeKind.Resource x) s u e r n h = (h.0, subst (λ (rs : List (Name × ℕ)). IsUnnamed c rs x) (sym r) h.1)
-type_refused_kept c (TypeKind.Func f) s u e r n h = refused_kept c (ItemKind.Func f) s.types u.types e r n h
-type_refused_kept c (TypeKind.Value v) s u e r n h = refused_kept c (ItemKind.Value v) s.types u.types e r n h
-type_refused_kept c (TypeKind.Interface f) s u e r n h = tt
-type_refused_kept c (TypeKind.World f) s u e r n h = tt
-type_refused_kept c (TypeKind.Module f) s u e r n h = tt
+pub type_refused_kept : (c : Collection) (t : TypeKind) (s u : ItemScope) (e : WriteError) → u.types.resources ≡ s.types.resources → RefusedType c t s e → RefusedType c t u e
+type_refused_kept c (TypeKind.Resource x) s u e r h = (h.0, subst (λ (rs : List (Name × ℕ)). IsUnnamed c rs x) (sym r) h.1)
+type_refused_kept c (TypeKind.Func f) s u e r h = refused_kept c (ItemKind.Func f) s.types u.types e r h
+type_refused_kept c (TypeKind.Value v) s u e r h = refused_kept c (ItemKind.Value v) s.types u.types e r h
+type_refused_kept c (TypeKind.Interface f) s u e r h = tt
+type_refused_kept c (TypeKind.World f) s u e r h = tt
+type_refused_kept c (TypeKind.Module f) s u e r h = tt
 
 -- of a value type in a place
 pub part_refused : (c : Collection) (k : ItemKind) (v : ValueType) (s : TypeScope) (e : WriteError) → Among (Some (ItemKind.Value v)) (slots_of c k) → Refused c (ItemKind.Value v) s e → Refused c k s e
 part_refused c k v s WriteError.Unwritable m h = part_dangles m h
-part_refused c k v s WriteError.TooLarge m h = h
 part_refused c k v s WriteError.Memory m h = tt
 
 -- of the value type in the place of this number

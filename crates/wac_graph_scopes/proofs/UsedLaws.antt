@@ -14,7 +14,6 @@ use Rattle.wac_types_base.specs.Entries.{Name}
 use Rattle.wac_types_base.specs.Collection.{Stands, IsAcyclic, size_of, resource}
 use Rattle.wac_types_base.specs.Stated.{Kind, IsResource}
 use Rattle.wac_types_base.specs.Tree.{Tree, rigid, instance, component, core_module, handle_own, handle_borrow, type_item, end}
-use Rattle.wac_types_base.specs.Fits.{Fits, rigid_fits, own_fits, borrow_fits, instance_fits, component_fits, module_fits, type_fits}
 use Rattle.wac_types_base.specs.Resolving.{IsNoAlias}
 use Rattle.wac_types_base.proofs.Standing.{resource_found, defined_found}
 use Rattle.wac_types_base.proofs.Slots.{stands_typed_value}
@@ -22,7 +21,7 @@ use Rattle.wac_types_base.proofs.Telling.{item_kind, resource_source}
 use Rattle.wac_types_fit.specs.Trees.{tree_in, Fit}
 use Rattle.wac_types_fit.specs.Checking.{IsFlat}
 use Rattle.wac_types_fit.proofs.Unfolded.{root_tree, source_tree, type_value}
-use Rattle.wac_types_fit.proofs.ItemKinds.{tree_kind, is_type, IsFlatTree, fits_flat, flat_is, kind_is, flat_fits}
+use Rattle.wac_types_fit.proofs.ItemKinds.{tree_kind, is_type, fits_flat, flat_is, kind_is, flat_fits}
 use Rattle.wac_types_base.specs.declared.item.PrimitiveType.{PrimitiveType}
 use Rattle.wac_graph_bytes.specs.declared.value.Sort.TheVariants as sort
 use Rattle.wac_graph_bytes.specs.declared.value.ValueType.TheVariants.{Primitive, Index}

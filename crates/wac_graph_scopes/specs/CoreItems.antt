@@ -1,5 +1,5 @@
 -- What holds of the declarations of a core module type while they are written.
-use Rattle.std.specs.Prelude.{◌≡◌, ℕ, ◌+◌, ◌≤◌, List, [], ◌∷◌, ◌++◌, length, Some, ◌⊎◌, String, string_bytes}
+use Rattle.std.specs.Prelude.{◌≡◌, ℕ, List, [], ◌∷◌, ◌++◌, length, Some, ◌⊎◌, String, string_bytes}
 use Rattle.std.specs.Global.{Global}
 use Rattle.wac_types_base.specs.declared.core_types.CoreType.{CoreType}
 use Rattle.wac_types_base.specs.declared.core_types.ModuleType.{ModuleType}
@@ -74,18 +74,16 @@ IsPlainItem x = Unit {0}
 -- why these types could not be written
 abbrev pub TypesRefused : List CoreType → WriteError → Type 0
 TypesRefused ts WriteError.Unwritable = HasUnspoken ts
-TypesRefused ts WriteError.TooLarge = ⊥
 TypesRefused ts WriteError.Memory = Unit {0}
 
 -- why the item could not be written
 abbrev pub PlainRefused : CoreExtern → WriteError → Type 0
 PlainRefused x e = (e ≡ WriteError.Unwritable) × CoreFails x
 
--- why these items could not be written, where so many signatures stood
-abbrev pub CoresRefused : List CoreExtern → ℕ → WriteError → Type 0
-CoresRefused xs n WriteError.Unwritable = OneFails xs
-CoresRefused xs n WriteError.TooLarge = 4294967295 ≤ n + length xs
-CoresRefused xs n WriteError.Memory = Unit {0}
+-- why these items could not be written
+abbrev pub CoresRefused : List CoreExtern → WriteError → Type 0
+CoresRefused xs WriteError.Unwritable = OneFails xs
+CoresRefused xs WriteError.Memory = Unit {0}
 
 abbrev pub ModuleFails : ModuleType → Type 0
 ModuleFails m = OneFails (values_of m.imports) ⊎ OneFails (values_of m.exports)
@@ -93,7 +91,6 @@ ModuleFails m = OneFails (values_of m.imports) ⊎ OneFails (values_of m.exports
 -- why the module type could not be written
 abbrev pub ModuleRefused : ModuleType → WriteError → Type 0
 ModuleRefused m WriteError.Unwritable = ModuleFails m
-ModuleRefused m WriteError.TooLarge = 4294967295 ≤ length m.imports + length m.exports
 ModuleRefused m WriteError.Memory = Unit {0}
 
 abbrev pub AddsImport : ModuleScope → ModuleScope → String Global × String Global → CoreExtern → Type 0

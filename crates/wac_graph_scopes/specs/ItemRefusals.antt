@@ -1,5 +1,5 @@
 -- Why items that are no instances and no components could not be written in a scope.
-use Rattle.std.specs.Prelude.{◌≡◌, Some, slice_get, ◌⊎◌}
+use Rattle.std.specs.Prelude.{◌≡◌, Some, slice_get}
 use Rattle.wac_types_base.specs.declared.ids.ModuleTypeId.{ModuleTypeId}
 use Rattle.wac_types_base.specs.declared.core_types.ModuleType.{ModuleType}
 use Rattle.wac_types_base.specs.declared.item.ItemKind.{ItemKind}
@@ -10,15 +10,9 @@ use Rattle.wac_graph_scopes.specs.declared.items.ItemScope.{ItemScope}
 use Rattle.wac_graph_scopes.specs.CoreItems.{ModuleRefused}
 use Rattle.wac_graph_scopes.specs.Refusals.{IsUnnamed, Refused}
 
--- no more core types can be counted there, or memory was short
-abbrev pub CoresFull : ItemScope → WriteError → Type 0
-CoresFull s WriteError.Unwritable = ⊥
-CoresFull s WriteError.TooLarge = s.cores ≡ 4294967295
-CoresFull s WriteError.Memory = Unit {0}
-
--- why a core module's type could not be written there
-abbrev pub RefusedModule : Collection → ModuleTypeId → ItemScope → WriteError → Type 0
-RefusedModule c id s e = (m : ModuleType) × (slice_get c.modules id.index ≡ Some m) × (ModuleRefused m e ⊎ CoresFull s e)
+-- why a core module's type could not be written
+abbrev pub RefusedModule : Collection → ModuleTypeId → WriteError → Type 0
+RefusedModule c id e = (m : ModuleType) × (slice_get c.modules id.index ≡ Some m) × ModuleRefused m e
 
 -- why a type item could not be written there; of interfaces and worlds nothing is said
 abbrev pub RefusedType : Collection → TypeKind → ItemScope → WriteError → Type 0
@@ -31,5 +25,5 @@ RefusedType c t s e = Unit {0}
 abbrev pub RefusedItem : Collection → ItemKind → ItemScope → WriteError → Type 0
 RefusedItem c (ItemKind.Ty t) s e = RefusedType c t s e
 RefusedItem c (ItemKind.Func f) s e = Refused c (ItemKind.Func f) s.types e
-RefusedItem c (ItemKind.Module m) s e = RefusedModule c m s e
+RefusedItem c (ItemKind.Module m) s e = RefusedModule c m e
 RefusedItem c k s e = Unit {0}

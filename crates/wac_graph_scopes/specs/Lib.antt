@@ -1,6 +1,5 @@
 pub mod Forms
 pub mod Scopes
-pub mod Faults
 pub mod Refusals
 pub mod CoreItems
 pub mod ItemRefusals

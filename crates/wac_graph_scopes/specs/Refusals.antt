@@ -29,7 +29,6 @@ pub data Dangles (c : Collection) (rs : List (Name × ℕ)) : ItemKind → Type 
 -- why what a kind names could not be written in the scope
 abbrev pub Refused : Collection → ItemKind → TypeScope → WriteError → Type 0
 Refused c k s WriteError.Unwritable = Dangles c s.resources k
-Refused c k s WriteError.TooLarge = s.types ≡ 4294967295
 Refused c k s WriteError.Memory = Unit {0}
 
 -- of the value type in a place

@@ -25,7 +25,7 @@ use wac_types_base::{
 #[derive(Drop)]
 pub(crate) struct ModuleScope {
     declarations: Vec<CoreDeclaration>,
-    signatures: u32,
+    signatures: u64,
 }
 
 fn reference_of(ty: CoreRefType) -> Result<CoreReference, WriteError>
@@ -148,11 +148,10 @@ fn describe_plain(item: &CoreExtern) -> Result<CoreDescription, WriteError>
 
 impl ModuleScope {
     /// The index of a function's signature.
-    fn signature(&mut self, alloc: Global, func: &CoreFuncType) -> Result<u32, WriteError>
+    fn signature(&mut self, alloc: Global, func: &CoreFuncType) -> Result<u64, WriteError>
         ensures written { IfOk result (λ k. AddsSignature self.old self.new func.now k) }
         ensures spoken { IfOk result (λ _. CoreFails (extern.Func func.now) → ⊥) }
-        ensures refused { IfErr result (CoresRefused (extern.Func func.now ∷ []) self.old.signatures) }
-        ensures count { self.new.signatures ≤ self.old.signatures + 1 }
+        ensures refused { IfErr result (CoresRefused (extern.Func func.now ∷ [])) }
     {
         let params = values_of(alloc, func.params.as_slice())?;
         let results = values_of(alloc, func.results.as_slice())?;
@@ -168,8 +167,7 @@ impl ModuleScope {
     fn describe(&mut self, alloc: Global, item: &CoreExtern) -> Result<CoreDescription, WriteError>
         ensures written { IfOk result (λ d. DescribesCore self.old self.new item.now d) }
         ensures spoken { IfOk result (λ _. CoreFails item.now → ⊥) }
-        ensures refused { IfErr result (CoresRefused (item.now ∷ []) self.old.signatures) }
-        ensures count { self.new.signatures ≤ self.old.signatures + 1 }
+        ensures refused { IfErr result (CoresRefused (item.now ∷ [])) }
     {
         match item {
             CoreExtern::Func(func) => {
@@ -192,8 +190,7 @@ impl ModuleScope {
     ) -> Result<(), WriteError>
         ensures written { IfOk result (λ _. AddsImport self.old self.new names.now item.now) }
         ensures spoken { IfOk result (λ _. CoreFails item.now → ⊥) }
-        ensures refused { IfErr result (CoresRefused (item.now ∷ []) self.old.signatures) }
-        ensures count { self.new.signatures ≤ self.old.signatures + 1 }
+        ensures refused { IfErr result (CoresRefused (item.now ∷ [])) }
     {
         let description = self.describe(alloc, item)?;
         let module = String::from_str(alloc, names.0.as_str())?;
@@ -206,8 +203,7 @@ impl ModuleScope {
     fn export(&mut self, alloc: Global, name: &str, item: &CoreExtern) -> Result<(), WriteError>
         ensures written { IfOk result (λ _. AddsCores self.old self.new [] ((name.now, item.now) ∷ [])) }
         ensures spoken { IfOk result (λ _. CoreFails item.now → ⊥) }
-        ensures refused { IfErr result (CoresRefused (item.now ∷ []) self.old.signatures) }
-        ensures count { self.new.signatures ≤ self.old.signatures + 1 }
+        ensures refused { IfErr result (CoresRefused (item.now ∷ [])) }
     {
         let description = self.describe(alloc, item)?;
         let name = String::from_str(alloc, name)?;
@@ -220,8 +216,7 @@ impl ModuleScope {
         ensures adds { IfOk result (λ _. AddsCores self.old self.new imports.now []) }
         ensures distinct { AreDistinct (names_of imports.now) }
         ensures spoken { IfOk result (λ _. OneFails (values_of imports.now) → ⊥) }
-        ensures refused { IfErr result (CoresRefused (values_of imports.now) self.old.signatures) }
-        ensures count { self.new.signatures ≤ self.old.signatures + length imports.now }
+        ensures refused { IfErr result (CoresRefused (values_of imports.now)) }
     {
         for at in 0..imports.len() {
             let item = &imports.values()[at];
@@ -238,8 +233,7 @@ impl ModuleScope {
         ensures adds { IfOk result (λ _. AddsCores self.old self.new [] exports.now) }
         ensures distinct { AreDistinct (names_of exports.now) }
         ensures spoken { IfOk result (λ _. OneFails (values_of exports.now) → ⊥) }
-        ensures refused { IfErr result (CoresRefused (values_of exports.now) self.old.signatures) }
-        ensures count { self.new.signatures ≤ self.old.signatures + length exports.now }
+        ensures refused { IfErr result (CoresRefused (values_of exports.now)) }
     {
         for at in 0..exports.len() {
             let (name, item) = exports.entry(at);

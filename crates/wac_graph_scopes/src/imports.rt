@@ -40,7 +40,7 @@ use wac_types_base::{InterfaceId, ItemKind, NamedMap, Names, Text, Type, Types, 
 #[derive(Clone, Copy, Debug)]
 pub struct SortIndex {
     pub sort: Sort,
-    pub index: u32,
+    pub index: u64,
 }
 
 /// Under which name the import at a place is asked for.
@@ -163,7 +163,7 @@ fn gives(
 }
 
 /// The index of the instance at a place.
-fn instance_index(places: &[Option<SortIndex>], at: usize) -> Option<u32>
+fn instance_index(places: &[Option<SortIndex>], at: usize) -> Option<u64>
     ensures { IfSome result (IsPlaced places.now at) }
 {
     match places.get(at) {
@@ -173,7 +173,7 @@ fn instance_index(places: &[Option<SortIndex>], at: usize) -> Option<u32>
 }
 
 /// The index of what is written, if it is an instance.
-fn index_of_instance(place: Option<SortIndex>) -> Option<u32>
+fn index_of_instance(place: Option<SortIndex>) -> Option<u64>
     ensures { IfSome result (λ k. place ≡ Some (record { sort = Instance; index = k })) }
 {
     match place {
@@ -183,7 +183,7 @@ fn index_of_instance(place: Option<SortIndex>) -> Option<u32>
 }
 
 /// The index, if the sort is that of instances.
-fn index_if_instance(sort: Sort, index: u32) -> Option<u32>
+fn index_if_instance(sort: Sort, index: u64) -> Option<u64>
     ensures { IfSome result (λ k. (sort ≡ Instance) × (k ≡ index)) }
 {
     match sort {
@@ -295,7 +295,7 @@ impl ImportScope {
         all: Importing<'_>,
         name: TypeName<'_>,
         item: ItemKind,
-    ) -> Result<Option<u32>, WriteError>
+    ) -> Result<Option<u64>, WriteError>
         ensures { FindsSource all.entry name.entry.name.now item self.now result }
     {
         all.types.see_acyclic();
@@ -314,10 +314,10 @@ impl ImportScope {
         &mut self,
         alloc: Global,
         types: &Types,
-        instance: u32,
+        instance: u64,
         name: TypeName<'_>,
         item: ItemKind,
-    ) -> Result<u32, WriteError>
+    ) -> Result<u64, WriteError>
         ensures { (world : WorldId) → AddsUsed types.now world instance name.entry.name.now item self.old self.new result }
     {
         types.see_acyclic();
@@ -333,7 +333,7 @@ impl ImportScope {
         all: Importing<'_>,
         used: Use<'_>,
         item: ItemKind,
-    ) -> Result<Option<u32>, WriteError>
+    ) -> Result<Option<u64>, WriteError>
         ensures { AliasesUse all.entry item self.old self.new result }
     {
         let Some(identifier) = identifier(all.types, used.interface) else {
@@ -357,7 +357,7 @@ impl ImportScope {
         all: Importing<'_>,
         name: TypeName<'_>,
         item: ItemKind,
-    ) -> Result<Option<u32>, WriteError>
+    ) -> Result<Option<u64>, WriteError>
         ensures { AliasesUse all.entry item self.old self.new result }
     {
         let source = self.source_of(alloc, all, name, item)?;

@@ -13,7 +13,7 @@ ghost use Rattle.wac_graph_scopes.specs.Parts.{exports_of, uses_of, IsUsedKind, 
 ghost use Rattle.wac_graph_scopes.specs.declared.fault.WriteError.{WriteError};
 ghost use Rattle.wac_graph_scopes.specs.Scopes.{FindsResource};
 ghost use Rattle.wac_graph_scopes.specs.Refusals.{IsUnnamed, RefusedThere};
-ghost use Rattle.wac_graph_scopes.specs.ItemRefusals.{CoresFull, RefusedModule, RefusedType, RefusedItem};
+ghost use Rattle.wac_graph_scopes.specs.ItemRefusals.{RefusedModule, RefusedType, RefusedItem};
 ghost use Rattle.wac_graph_scopes.specs.Items.{IsItemScope, AddsType, EntersType, AddsCore, count_of, with_count, AddsItem, AliasesOuter, AliasesExport, described_as, Notes};
 ghost use Rattle.wac_graph_scopes.specs.Items.{FindsUsed, AliasesUsed, ExportsTaken, HasNameAt, ExportsUsed, TakesUse, TakesNamed, TakesAt, BeginsInstance, KeepsWriting, ExportsDescribed, ExportsFresh};
 ghost use Rattle.wac_graph_scopes.specs.Items.{StatesType, StatesTypeItem, StatesModule, DescribesSimply, MakesItem, HasEntry, DescribesEntry, StatesItem, StatesClosed, DescribesItem, ExportsOne, WritesOtherAt, WritesOthers, WritesInstance, MakesInstance};
@@ -40,18 +40,18 @@ use wac_types_base::{
 #[derive(Drop)]
 pub struct ItemScope {
     pub types: TypeScope,
-    pub cores: u32,
-    pub funcs: u32,
-    pub components: u32,
-    pub instances: u32,
-    pub modules: u32,
+    pub cores: u64,
+    pub funcs: u64,
+    pub components: u64,
+    pub instances: u64,
+    pub modules: u64,
 }
 
 /// The scopes around the one that is written: what stands in one of them, so many scopes further out.
 #[derive(Clone, Copy)]
 pub struct Around<'a> {
     pub used: &'a UsedTypes,
-    pub depth: u32,
+    pub depth: u64,
 }
 
 /// An interface whose instance type is written, and what stands around it.
@@ -100,7 +100,7 @@ impl ItemScope {
     }
 
     /// Adds a declaration of a type.
-    fn add_type(&mut self, declaration: Declaration) -> Result<u32, WriteError>
+    fn add_type(&mut self, declaration: Declaration) -> Result<u64, WriteError>
         ensures adds { AddsType declaration self.old self.new result }
         ensures entry { EntersType declaration self.old self.new result }
     {
@@ -112,9 +112,9 @@ impl ItemScope {
     }
 
     /// Adds a core module type.
-    fn add_core(&mut self, declaration: Declaration) -> Result<u32, WriteError>
+    fn add_core(&mut self, declaration: Declaration) -> Result<u64, WriteError>
         ensures adds { AddsCore declaration self.old self.new result }
-        ensures refused { IfErr result (CoresFull self.new) }
+        ensures refused { IfErr result (λ e. e ≡ WriteError.Memory) }
     {
         self.types.declarations.push(declaration)?;
         let index = self.cores;
@@ -128,7 +128,7 @@ impl ItemScope {
         &mut self,
         declaration: Declaration,
         description: Description,
-    ) -> Result<u32, WriteError>
+    ) -> Result<u64, WriteError>
         ensures { AddsItem declaration description self.old self.new result }
     {
         self.types.declarations.push(declaration)?;
@@ -139,7 +139,7 @@ impl ItemScope {
     }
 
     /// How many items of that sort stand here.
-    fn count_of(&self, description: Description) -> u32
+    fn count_of(&self, description: Description) -> u64
         ensures { result ≡ count_of description self.now }
     {
         match description {
@@ -152,7 +152,7 @@ impl ItemScope {
         }
     }
 
-    fn set_count(&mut self, description: Description, next: u32)
+    fn set_count(&mut self, description: Description, next: u64)
         ensures { self.new ≡ with_count description next self.old }
     {
         match description {
@@ -166,7 +166,7 @@ impl ItemScope {
     }
 
     /// Adds an alias of a type that stands so many scopes further out.
-    fn add_outer(&mut self, depth: u32, index: u32) -> Result<u32, WriteError>
+    fn add_outer(&mut self, depth: u64, index: u64) -> Result<u64, WriteError>
         ensures { AliasesOuter depth index self.old self.new result }
     {
         self.add_type(Declaration::Alias(Alias::Outer(Sort::Ty, depth, index)))
@@ -176,9 +176,9 @@ impl ItemScope {
     pub(crate) fn add_alias(
         &mut self,
         alloc: Global,
-        instance: u32,
+        instance: u64,
         name: &str,
-    ) -> Result<u32, WriteError>
+    ) -> Result<u64, WriteError>
         ensures { AliasesExport instance name.now self.old self.new result }
     {
         let name = String::from_str(alloc, name)?;
@@ -191,7 +191,7 @@ impl ItemScope {
         alloc: Global,
         types: &Types,
         kind: ItemKind,
-        index: u32,
+        index: u64,
     ) -> Result<(), WriteError>
         ensures { Notes types.now kind index self.old self.new result }
     {
@@ -207,7 +207,7 @@ impl ItemScope {
         alloc: Global,
         types: &Types,
         ty: Type,
-        index: u32,
+        index: u64,
     ) -> Result<(), WriteError>
         ensures { Notes types.now (ItemKind.Ty ty) index self.old self.new result }
     {
@@ -232,7 +232,7 @@ pub(crate) fn find_used(
     all: &UsedTypes,
     name: TypeName<'_>,
     item: ItemKind,
-) -> Result<Option<u32>, WriteError>
+) -> Result<Option<u64>, WriteError>
     ensures { FindsUsed types.now all.now.all.items item result }
 {
     types.see_acyclic();
@@ -270,7 +270,7 @@ fn alias_around(
     around: Around<'_>,
     used: Use<'_>,
     item: ItemKind,
-) -> Result<Option<u32>, WriteError>
+) -> Result<Option<u64>, WriteError>
     ensures { AliasesUsed types.now around.entry item scope.old scope.new result }
 {
     let Some(identifier) = identifier(types, used.interface) else {
@@ -596,7 +596,7 @@ fn push_instance_type(
     types: &Types,
     around: Around<'_>,
     id: InterfaceId,
-) -> Result<u32, WriteError>
+) -> Result<u64, WriteError>
     ensures states { StatesItem types.now around.entry (ItemKind.Instance id) scope.old scope.new result }
     ensures entry { MakesItem types.now scope.old scope.new result }
 {
@@ -617,7 +617,7 @@ fn push_component_type(
     scope: &mut ItemScope,
     types: &Types,
     id: WorldId,
-) -> Result<u32, WriteError>
+) -> Result<u64, WriteError>
     ensures states { StatesClosed types.now (ItemKind.Component id) scope.old scope.new result }
     ensures entry { MakesItem types.now scope.old scope.new result }
 {
@@ -631,9 +631,9 @@ fn push_module_type(
     scope: &mut ItemScope,
     types: &Types,
     id: ModuleTypeId,
-) -> Result<u32, WriteError>
+) -> Result<u64, WriteError>
     ensures states { StatesModule types.now id scope.old scope.new result }
-    ensures refused { Stands types.now (ItemKind.Module id) → IfErr result (RefusedModule types.now id scope.new) }
+    ensures refused { Stands types.now (ItemKind.Module id) → IfErr result (RefusedModule types.now id) }
 {
     if !types.has(ItemKind::Module(id)) {
         return Err(WriteError::Unwritable);
@@ -643,7 +643,7 @@ fn push_module_type(
 }
 
 /// The index of a resource that stands here.
-fn resource_index(scope: &ItemScope, types: &Types, id: ResourceId) -> Result<u32, WriteError>
+fn resource_index(scope: &ItemScope, types: &Types, id: ResourceId) -> Result<u64, WriteError>
     requires { Stands types.now (ItemKind.Ty (TypeKind.Resource id)) }
     ensures finds { FindsResource types.now (tree_in types.now (ItemKind.Ty (TypeKind.Resource id))) scope.now.types result }
     ensures refused { IfErr result (λ e. (e ≡ WriteError.Unwritable) × IsUnnamed types.now scope.now.types.resources id) }
@@ -660,7 +660,7 @@ pub(crate) fn push_func_type(
     scope: &mut ItemScope,
     types: &Types,
     id: FuncTypeId,
-) -> Result<u32, WriteError>
+) -> Result<u64, WriteError>
     ensures stands { IfOk result (λ _. Stands types.now (ItemKind.Func id)) }
     ensures states { StatesType types.now (ItemKind.Func id) scope.old scope.new result }
     ensures entry { MakesItem types.now scope.old scope.new result }
@@ -678,7 +678,7 @@ fn push_type(
     scope: &mut ItemScope,
     types: &Types,
     ty: Type,
-) -> Result<u32, WriteError>
+) -> Result<u64, WriteError>
     requires { Stands types.now (ItemKind.Ty ty) }
     ensures states { StatesTypeItem types.now ty scope.old scope.new result }
     ensures refused { IfErr result (RefusedType types.now ty scope.new) }
@@ -698,7 +698,7 @@ fn push_value_type(
     scope: &mut ItemScope,
     types: &Types,
     ty: ValueType,
-) -> Result<u32, WriteError>
+) -> Result<u64, WriteError>
     ensures states { StatesType types.now (ItemKind.Value ty) scope.old scope.new result }
     ensures refused { RefusedThere types.now (ItemKind.Value ty) scope.new.types result }
 {
@@ -735,7 +735,7 @@ fn describe_simple(
 }
 
 /// What a thing of the type at an index is, or that type itself.
-fn described(kind: ItemKind, index: u32) -> Description
+fn described(kind: ItemKind, index: u64) -> Description
     ensures { result ≡ described_as kind index }
 {
     match kind {

@@ -1,9 +1,8 @@
 //! A scope of written types.
 
-ghost use Rattle.std.specs.Prelude.{◌≡◌, ◌+◌, ◌↔◌, List, IfOk, IfErr, OnErr, IsTrue, Err, string_bytes};
+ghost use Rattle.std.specs.Prelude.{◌≡◌, ◌+◌, ◌↔◌, List, IfOk, IsTrue, string_bytes};
 ghost use Rattle.wac_types_base.specs.Record.{Collection};
 ghost use Rattle.wac_types_base.specs.Entries.{value_at};
-ghost use Rattle.wac_graph_bytes.specs.declared.fault.SizeError.TheVariants.{TooLarge};
 ghost use Rattle.wac_graph_bytes.specs.Typing.{Worlds, Scope, nothing_inside};
 ghost use Rattle.wac_graph_scopes.specs.Scopes.{AreKnown, IsScope, Exchanges, FindsType, Defines, MakesEntry, ExportsFunction, ExportsNewType, Remembers, FindsKnown, KnowsResource, NotesResource};
 
@@ -11,14 +10,14 @@ use crate::prints::Prints;
 use indexmap::IndexMap;
 use std::alloc::{AllocError, Global};
 use std::mem;
-use wac_graph_bytes::{Declaration, DefinedType, Description, SizeError};
+use wac_graph_bytes::{Declaration, DefinedType, Description};
 use wac_types_base::{DefinedTypeId, NamedMap};
 
 /// A type of a collection that is written, and its index.
 #[derive(Clone, Copy)]
 pub struct KnownType {
     pub id: DefinedTypeId,
-    pub index: u32,
+    pub index: u64,
 }
 
 /// The types of one collection that are written in a scope.
@@ -42,17 +41,17 @@ pub struct Places {
 #[derive(Drop)]
 pub struct TypeScope {
     pub declarations: Vec<Declaration>,
-    pub types: u32,
+    pub types: u64,
     pub known: KnownTypes,
     /// The indexes of resources, by their root names.
-    pub resources: NamedMap<u32>,
+    pub resources: NamedMap<u64>,
 }
 
-pub(crate) fn next_of(count: u32) -> Result<u32, SizeError>
+/// The count after this one. No memory holds as many things as this cannot count.
+pub(crate) fn next_of(count: u64) -> Result<u64, AllocError>
     ensures ok { IfOk result (λ i. i ≡ count + 1) }
-    ensures full { IfErr result (λ e. (e ≡ TooLarge) × (count ≡ 4294967295)) }
 {
-    count.checked_add(1).ok_or(SizeError::TooLarge)
+    count.checked_add(1).ok_or(AllocError)
 }
 
 /// Whether two ids are one.
@@ -102,11 +101,9 @@ impl TypeScope {
     }
 
     /// Writes a type without declarations.
-    pub fn define(&mut self, ty: DefinedType) -> Result<u32, SizeError>
+    pub fn define(&mut self, ty: DefinedType) -> Result<u64, AllocError>
         ensures stands { Defines ty self.old self.new result }
         ensures entry { (c : Collection) → MakesEntry c self.old self.new result }
-        ensures full { result ≡ Err TooLarge → self.old.types ≡ 4294967295 }
-        ensures kept { OnErr result (self.new.types ≡ self.old.types) }
         ensures resources { self.new.resources ≡ self.old.resources }
     {
         let index = self.types;
@@ -117,7 +114,7 @@ impl TypeScope {
     }
 
     /// Exports a function of the type at an index.
-    pub fn export_func(&mut self, name: String, ty: u32) -> Result<(), AllocError>
+    pub fn export_func(&mut self, name: String, ty: u64) -> Result<(), AllocError>
         ensures { ExportsFunction (string_bytes name) ty self.old self.new result }
     {
         self.declarations
@@ -126,9 +123,8 @@ impl TypeScope {
     }
 
     /// Exports a type that is the one at an index; the export has an index of its own.
-    pub fn export_type(&mut self, name: String, ty: u32) -> Result<u32, SizeError>
-        ensures stands { ExportsNewType (string_bytes name) ty self.old self.new result }
-        ensures full { result ≡ Err TooLarge → self.old.types ≡ 4294967295 }
+    pub fn export_type(&mut self, name: String, ty: u64) -> Result<u64, AllocError>
+        ensures { ExportsNewType (string_bytes name) ty self.old self.new result }
     {
         let own = self.types;
         let next = next_of(own)?;
@@ -139,7 +135,7 @@ impl TypeScope {
     }
 
     /// Remembers the index of a type; in place of an earlier one of that id.
-    pub fn remember(&mut self, id: DefinedTypeId, index: u32) -> Result<(), AllocError>
+    pub fn remember(&mut self, id: DefinedTypeId, index: u64) -> Result<(), AllocError>
         ensures known { Remembers id index self.old self.new result }
         ensures declarations { self.new.declarations ≡ self.old.declarations }
         ensures resources { self.new.resources ≡ self.old.resources }
@@ -160,7 +156,7 @@ impl TypeScope {
     }
 
     /// Remembers the index of a resource.
-    pub fn add_resource(&mut self, name: String, index: u32) -> Result<(), AllocError>
+    pub fn add_resource(&mut self, name: String, index: u64) -> Result<(), AllocError>
         ensures { NotesResource (string_bytes name) index self.old self.new result }
     {
         let _ = self.resources.insert(name, index)?;
@@ -168,7 +164,7 @@ impl TypeScope {
     }
 
     /// The index of a type that is written already.
-    pub fn known(&self, id: DefinedTypeId) -> Option<u32>
+    pub fn known(&self, id: DefinedTypeId) -> Option<u64>
         ensures { (c : Collection) → FindsType c self.now id result }
     {
         match self.known.places.by_id.get(&id) {
@@ -178,7 +174,7 @@ impl TypeScope {
     }
 
     /// The index of what is remembered at a place, if it is the type.
-    fn known_as(&self, at: usize, id: DefinedTypeId) -> Option<u32>
+    fn known_as(&self, at: usize, id: DefinedTypeId) -> Option<u64>
         ensures { (c : Collection) → FindsType c self.now id result }
     {
         match self.known_at(at) {
@@ -204,7 +200,7 @@ impl TypeScope {
     }
 
     /// The index of a resource that stands here.
-    pub fn resource(&self, name: &str) -> Option<u32>
+    pub fn resource(&self, name: &str) -> Option<u64>
         ensures reads { KnowsResource self.now name.now result }
         ensures found { result ≡ value_at self.now.resources name.now }
     {

@@ -11,7 +11,7 @@ use wac_types_base::ItemKind;
 #[derive(Clone, Copy)]
 pub struct UsedIndex {
     pub item: ItemKind,
-    pub index: u32,
+    pub index: u64,
 }
 
 /// The name of a type of an interface: that of the interface, and its own there.

@@ -24,7 +24,7 @@ use wac_types_base::{DefinedTypeId, FuncTypeId, ItemKind, ResourceId, Types, Val
 use wac_types_fit::{SubtypeChecker, SubtypeError, new_cache};
 
 /// The index of a resource in the scope.
-fn resource_of(scope: &TypeScope, types: &Types, id: ResourceId) -> Result<u32, WriteError>
+fn resource_of(scope: &TypeScope, types: &Types, id: ResourceId) -> Result<u64, WriteError>
     requires { Stands types.now (ItemKind.Ty (TypeKind.Resource id)) }
     ensures reads { FindsResource types.now (tree_in types.now (ItemKind.Ty (TypeKind.Resource id))) scope.now result }
     ensures root { (n : Name) × (tree_in types.now (ItemKind.Ty (TypeKind.Resource id)) ≡ rigid (resource n) end) }
@@ -39,7 +39,7 @@ fn resource_of(scope: &TypeScope, types: &Types, id: ResourceId) -> Result<u32, 
 }
 
 /// The index of a type entry that is such a handle.
-fn define_own(scope: &mut TypeScope, types: &Types, id: ResourceId) -> Result<u32, WriteError>
+fn define_own(scope: &mut TypeScope, types: &Types, id: ResourceId) -> Result<u64, WriteError>
     requires { Stands types.now (ItemKind.Value (ValueType.Own id)) }
     ensures writes { WritesIndex types.now (tree_in types.now (ItemKind.Value (ValueType.Own id))) scope.old scope.new result }
     ensures entry { MakesEntry types.now scope.old scope.new result }
@@ -63,7 +63,7 @@ fn push_own(scope: &mut TypeScope, types: &Types, id: ResourceId) -> Result<Writ
 }
 
 /// The index of a type entry that is such a handle.
-fn define_borrow(scope: &mut TypeScope, types: &Types, id: ResourceId) -> Result<u32, WriteError>
+fn define_borrow(scope: &mut TypeScope, types: &Types, id: ResourceId) -> Result<u64, WriteError>
     requires { Stands types.now (ItemKind.Value (ValueType.Borrow id)) }
     ensures writes { WritesIndex types.now
         (tree_in types.now (ItemKind.Value (ValueType.Borrow id))) scope.old scope.new result }
@@ -186,7 +186,7 @@ fn equal_at(
     types: &Types,
     id: DefinedTypeId,
     at: usize,
-) -> Result<Option<u32>, WriteError>
+) -> Result<Option<u64>, WriteError>
     requires { Stands types.now (ItemKind.Value (ValueType.Defined id)) }
     ensures reads { IfOk result (λ o. FindsType types.now scope.now id o) }
     ensures refused { IfErr result (λ e. e ≡ WriteError.Memory) }
@@ -211,7 +211,7 @@ fn equal_among(
     scope: &TypeScope,
     types: &Types,
     id: DefinedTypeId,
-) -> Result<Option<u32>, WriteError>
+) -> Result<Option<u64>, WriteError>
     requires { Stands types.now (ItemKind.Value (ValueType.Defined id)) }
     ensures reads { IfOk result (λ o. FindsType types.now scope.now id o) }
     ensures refused { IfErr result (λ e. e ≡ WriteError.Memory) }
@@ -232,7 +232,7 @@ fn equal_index(
     scope: &mut TypeScope,
     types: &Types,
     id: DefinedTypeId,
-) -> Result<Option<u32>, WriteError>
+) -> Result<Option<u64>, WriteError>
     requires { Stands types.now (ItemKind.Value (ValueType.Defined id)) }
     ensures keeps { KeepsScope types.now scope.old scope.new }
     ensures reads { IfOk result (λ o. FindsType types.now scope.old id o) }
@@ -256,7 +256,7 @@ fn known_index(
     scope: &mut TypeScope,
     types: &Types,
     id: DefinedTypeId,
-) -> Result<Option<u32>, WriteError>
+) -> Result<Option<u64>, WriteError>
     requires { Stands types.now (ItemKind.Value (ValueType.Defined id)) }
     ensures keeps { KeepsScope types.now scope.old scope.new }
     ensures reads { IfOk result (λ o. FindsType types.now scope.old id o) }
@@ -274,7 +274,7 @@ fn note_named(
     scope: &mut TypeScope,
     types: &Types,
     id: DefinedTypeId,
-    index: u32,
+    index: u64,
 ) -> Result<(), WriteError>
     requires { Stands types.now (ItemKind.Value (ValueType.Defined id)) }
     ensures { RemembersOne types.now id index scope.old scope.new result }
@@ -293,7 +293,7 @@ pub(crate) fn note_resource(
     alloc: Global,
     scope: &mut TypeScope,
     name: &str,
-    index: u32,
+    index: u64,
 ) -> Result<(), WriteError>
     ensures { NotesResource name.now index scope.old scope.new result }
 {
@@ -311,7 +311,7 @@ pub(crate) fn note_value(
     scope: &mut TypeScope,
     types: &Types,
     ty: ValueType,
-    index: u32,
+    index: u64,
 ) -> Result<(), WriteError>
     ensures { NotesValue types.now ty index scope.old scope.new result }
 {
@@ -330,7 +330,7 @@ fn note_defined(
     scope: &mut TypeScope,
     types: &Types,
     id: DefinedTypeId,
-    index: u32,
+    index: u64,
 ) -> Result<(), WriteError>
     requires { Stands types.now (ItemKind.Value (ValueType.Defined id)) }
     ensures { RemembersOne types.now id index scope.old scope.new result }
@@ -347,7 +347,7 @@ pub(crate) fn define_value(
     scope: &mut TypeScope,
     types: &Types,
     ty: ValueType,
-) -> Result<u32, WriteError>
+) -> Result<u64, WriteError>
     ensures writes { WritesType types.now (tree_in types.now (ItemKind.Value ty)) scope.old scope.new result }
     ensures refused { RefusedThere types.now (ItemKind.Value ty) scope.new result }
     ensures resources { scope.new.resources ≡ scope.old.resources }
@@ -368,7 +368,7 @@ fn define_plain(
     scope: &mut TypeScope,
     types: &Types,
     ty: ValueType,
-) -> Result<u32, WriteError>
+) -> Result<u64, WriteError>
     requires stands { Stands types.now (ItemKind.Value ty) }
     requires no_alias { IsNoAlias types.now ty }
     ensures writes { WritesType types.now (tree_in types.now (ItemKind.Value ty)) scope.old scope.new result }
@@ -391,7 +391,7 @@ fn define_once(
     scope: &mut TypeScope,
     types: &Types,
     id: DefinedTypeId,
-) -> Result<u32, WriteError>
+) -> Result<u64, WriteError>
     requires stands { Stands types.now (ItemKind.Value (ValueType.Defined id)) }
     requires no_alias { IsNoAlias types.now (ValueType.Defined id) }
     ensures writes { WritesType types.now
@@ -411,7 +411,7 @@ pub(crate) fn define_apart(
     scope: &mut TypeScope,
     types: &Types,
     ty: ValueType,
-) -> Result<u32, WriteError>
+) -> Result<u64, WriteError>
     ensures stands { IfOk result (λ _. Stands types.now (ItemKind.Value ty)) }
     ensures writes { WritesType types.now (tree_in types.now (ItemKind.Value ty)) scope.old scope.new result }
     ensures entry { MakesEntry types.now scope.old scope.new result }
@@ -432,7 +432,7 @@ fn define_anew(
     scope: &mut TypeScope,
     types: &Types,
     id: DefinedTypeId,
-) -> Result<u32, WriteError>
+) -> Result<u64, WriteError>
     requires stands { Stands types.now (ItemKind.Value (ValueType.Defined id)) }
     requires no_alias { IsNoAlias types.now (ValueType.Defined id) }
     ensures writes { WritesType types.now
@@ -476,7 +476,7 @@ fn define_entry(
     scope: &mut TypeScope,
     types: &Types,
     id: DefinedTypeId,
-) -> Result<u32, WriteError>
+) -> Result<u64, WriteError>
     requires { Stands types.now (ItemKind.Value (ValueType.Defined id)) }
     ensures writes { WritesEntry types.now id scope.old scope.new result }
     ensures entry { MakesEntry types.now scope.old scope.new result }
@@ -543,7 +543,7 @@ pub(crate) fn push_func(
     scope: &mut TypeScope,
     types: &Types,
     id: FuncTypeId,
-) -> Result<u32, WriteError>
+) -> Result<u64, WriteError>
     requires { Stands types.now (ItemKind.Func id) }
     ensures writes { WritesType types.now (tree_in types.now (ItemKind.Func id)) scope.old scope.new result }
     ensures entry { MakesEntry types.now scope.old scope.new result }

@@ -13,8 +13,9 @@ use Rattle.wac_types_base.specs.Tree.{Tree, tree, tree_of}
 use Rattle.wac_types_base.proofs.Telling.{tree_stated}
 use Rattle.wac_types_names.specs.Packaged.{Packaged}
 use Rattle.wac_types_names.specs.Keys.{Key, package_key}
+use Rattle.wac_graph_bytes.specs.Entries.{Entry}
 use Rattle.wac_graph_bytes.specs.Typing.{Worlds}
-use Rattle.wac_graph_bytes.specs.Wirings.{Tag, OfBytes, Instantiation, Wiring}
+use Rattle.wac_graph_bytes.specs.Wirings.{Tag, OfBytes, Instantiation, Same, Wiring}
 use Rattle.wac_graph_bytes.proofs.SameWirings.{same_trans}
 use Rattle.wac_graph_core.specs.declared.ids.PackageId.{PackageId}
 use Rattle.wac_graph_core.specs.Graph.{Graph, IsGraph, PackageStands, instantiated, package_of}
@@ -45,7 +46,8 @@ use Rattle.wac_parser_resolve.proofs.Turns.{turn_back, turn_on}
 use Rattle.wac_parser_ascribed.specs.Tied.{IsAscribed, IsTagged, handed_tag, ascribed_wiring, handed_bytes}
 use Rattle.wac_parser_ascribed.proofs.Wired.{ascribed}
 use Rattle.wac_parser_encode.specs.Processing.{IsProcessed}
-use Rattle.wac_parser_encode.specs.Meaning.{AreTrueAs, AreTrueOf, HasResolvedWorld, ImportsAscribed, ImportsIn, ImportsResolved, MeansIn, MeansAscribed, MeansResolved, imported_tag, CanBeImported}
+use Rattle.wac_parser_encode.specs.Sizes.{StateIn, StateImporting}
+use Rattle.wac_parser_encode.specs.Meaning.{AreTrueAs, AreTrueOf, HasResolvedWorld, ImportsAscribed, ImportsResolved, MeansAscribed, MeansResolved, imported_tag, CanBeImported}
 
 -- an instance of the package was said
 record IsSaid (g : Graph) (ms : List ℕ) (s : State) (p : Packaged) : Type 0 where
@@ -91,21 +93,29 @@ module _ (g : Graph) (sound : IsGraph g) (acyclic : IsAcyclic g.types) (places :
   true_of_graph : (worlds : Worlds) → AreTrueOf s worlds → graph.AreTrueOf true g worlds
   true_of_graph worlds h = record { each = λ k p e. ap worlds (tag_is k p e) ∙ true_at (handed_tag s.packages) worlds h k p e }
 
-  by_wiring : IsAscribed g places s → (worlds : Worlds) (bytes : List ℕ) → graph.MeansGraph true g worlds bytes → (W : Wiring ℕ) → IsGraphWiring g W → MeansIn s worlds bytes
-  by_wiring tied worlds bytes m W is = record { meant = m.meant; means = m.means; same = same_trans (ascribed_wiring s) W m.meant (tied.wired W is) (m.same W is) }
+  -- the graph's wiring is the one that is ascribed
+  same_as : IsAscribed g places s → (meant : Wiring ℕ) (imports : List (Name × Tree)) → graph.IsOfGraph true g meant imports → (W : Wiring ℕ) × IsGraphWiring g W → Same (ascribed_wiring s) meant
+  same_as tied meant imports m w = same_trans (ascribed_wiring s) w.0 meant (tied.wired w.0 w.1) (m.same w.0 w.1)
 
-  by_some : IsAscribed g places s → (worlds : Worlds) (bytes : List ℕ) → graph.MeansGraph true g worlds bytes → (W : Wiring ℕ) × IsGraphWiring g W → MeansIn s worlds bytes
-  by_some tied worlds bytes m w = by_wiring tied worlds bytes m w.0 w.1
+  wiring_there : (W : Wiring ℕ) × IsGraphWiring g W
+  wiring_there = has_wiring (spelling (asks_of (composition_of g))) (written_tree g) g sound (asked_trees g)
 
   said : IsAscribed g places s → (bytes : List ℕ) → graph.MeansWiring true g bytes → MeansAscribed s bytes
   said tied bytes h worlds are =
-      by_some tied worlds bytes (h worlds (true_of_graph worlds are)) (has_wiring (spelling (asks_of (composition_of g))) (written_tree g) g sound (asked_trees g))
+      let m = h worlds (true_of_graph worlds are) in
+      record { meant = m.meant; means = m.means; same = same_as tied m.meant m.means.states.last.listed.imports m.of wiring_there }
+
+  -- entries that state the graph's wiring state it
+  pub entries_said : IsAscribed g places s → (es : List Entry) → ((worlds : Worlds) → graph.AreTrueOf true g worlds → graph.StateGraph true g worlds es) → (worlds : Worlds) → AreTrueOf s worlds → StateIn s worlds es
+  entries_said tied es h worlds are =
+      let m = h worlds (true_of_graph worlds are) in
+      record { meant = m.meant; states = m.states; same = same_as tied m.meant m.states.last.listed.imports m.of wiring_there }
 
 module _ (g : Graph) (sound : IsGraph g) (acyclic : IsAcyclic g.types) (places : Places) (s : State) (b : IsBuilt g places s) where
   true_of_imports : (worlds : Worlds) → AreTrueAs imported_tag s worlds → graph.AreTrueOf false g worlds
   true_of_imports worlds h = record { each = λ k p e. true_at g sound acyclic places s b imported_tag worlds h k p e }
 
-  names_of_graph : CanBeImported s → graph.HaveDependencyNames g
+  pub names_of_graph : CanBeImported s → graph.HaveDependencyNames g
   names_of_graph h p made =
       let m = made_at g sound acyclic places s b made.0 p made.1 in
       subst (λ k. IsDependency (dependency_name k)) (sym m.is.key ∙ ap package_key m.of) (h m.made m.among)
@@ -126,17 +136,31 @@ module _ (g : Graph) (sound : IsGraph g) (acyclic : IsAcyclic g.types) (places :
       let a = x.2 in
       subst (λ e. Among e imports) (λ i. (dependency_name (a.key i), tree (a.world.same i))) (h a.of (x.0.0, a.is))
 
-  by_imports : IsAscribed g places s → (worlds : Worlds) (bytes : List ℕ) → graph.MeansGraph false g worlds bytes → (W : Wiring ℕ) × IsGraphWiring g W → ImportsIn s worlds bytes
-  by_imports tied worlds bytes m w = record {
-    meant = m.meant;
-    means = m.means;
-    same = same_trans (composed_wiring imported_tag (composition s)) (graph.with_dependencies g w.0) m.meant (tied.tagged imported_tag w.0 (graph.with_dependencies g w.0) w.1 (tagged w.0 w.1)) (m.same w.0 w.1);
-    packages = imported m.means.last.listed.imports m.packages;
-  }
+  same_imported : IsAscribed g places s → (meant : Wiring ℕ) (imports : List (Name × Tree)) → graph.IsOfGraph false g meant imports → (W : Wiring ℕ) × IsGraphWiring g W → Same (composed_wiring imported_tag (composition s)) meant
+  same_imported tied meant imports m w =
+      same_trans (composed_wiring imported_tag (composition s)) (graph.with_dependencies g w.0) meant (tied.tagged imported_tag w.0 (graph.with_dependencies g w.0) w.1 (tagged w.0 w.1)) (m.same w.0 w.1)
 
   imports_said : IsAscribed g places s → (bytes : List ℕ) → (graph.HaveDependencyNames g → graph.IsComposed false g bytes) → ImportsAscribed s bytes
   imports_said tied bytes h names worlds are =
-      by_imports tied worlds bytes ((h (names_of_graph names)).means worlds (true_of_imports worlds are)) (has_wiring (spelling (asks_of (composition_of g))) (written_tree g) g sound (asked_trees g))
+      let m = (h (names_of_graph names)).means worlds (true_of_imports worlds are) in
+      let imports = m.means.states.last.listed.imports in
+      record {
+        meant = m.meant;
+        means = m.means;
+        same = same_imported tied m.meant imports m.of (wiring_there g sound acyclic places s b);
+        packages = imported imports m.of.packages;
+      }
+
+  pub imports_stated : IsAscribed g places s → (es : List Entry) → ((worlds : Worlds) → graph.AreTrueOf false g worlds → graph.StateGraph false g worlds es) → (worlds : Worlds) → AreTrueAs imported_tag s worlds → StateImporting s worlds es
+  imports_stated tied es h worlds are =
+      let m = h worlds (true_of_imports worlds are) in
+      let imports = m.states.last.listed.imports in
+      record {
+        meant = m.meant;
+        states = m.states;
+        same = same_imported tied m.meant imports m.of (wiring_there g sound acyclic places s b);
+        packages = imported imports m.of.packages;
+      }
 
 pub of_document : (g : Graph) (options : EncodeOptions) (bytes : List ℕ) → IsGraph g → IsAcyclic g.types → MeansNested g options bytes → MeansResolved g options bytes
 unfolding MeansResolved

@@ -1,13 +1,21 @@
 -- A refusal of a graph that holds what a document says tells the document's first cause.
-use Rattle.std.specs.Prelude.{option_map, string_bytes, Result, Ok, Err, IfErr, OnOk}
-use Rattle.std.proofs.Common.{◌≡◌, ◌≤◌, ◌^◌, ℕ, List, length, Bool, Some, None, refl, sym, ap, subst, inl, inr, ◌∙◌}
+use Rattle.std.specs.Prelude.{◌⊎◌, option_map, string_bytes, Result, Ok, Err, IfErr, OnOk}
+use Rattle.std.specs.Str.{chars, is_utf8}
+use lib.Utf8.{encode}
+use Rattle.std.proofs.lemmas.Option.{none-some}
+use Rattle.std.proofs.Common.{◌≡◌, ◌≤◌, ◌^◌, ℕ, List, length, codes, Bool, true, false, true≢false, Option, Some, None, refl, sym, ap, subst, inl, inr, ◌∙◌}
 use Rattle.wac_types_base.specs.Collection.{IsAcyclic}
 use Rattle.wac_types_names.specs.declared.package.PackageKey.{PackageKey}
 use Rattle.wac_types_names.specs.Keys.{owned_key, package_key}
+use Rattle.wac_graph_bytes.specs.declared.entry.Processor.{Processor}
+use Rattle.wac_graph_bytes.specs.Leb.{digits, digits_by}
+use Rattle.wac_graph_bytes.specs.Views.{processor_view}
+use Rattle.wac_graph_bytes.specs.Writing.{producers_fit, producers_if_fit}
 use Rattle.wac_graph_core.specs.Graph.{Graph, IsGraph}
 use Rattle.wac_composition.specs.Against.{StandsAgainst}
 use Rattle.wac_composition.specs.Conflicts as cause
 use Rattle.wac_composition.specs.Conflicts.{first_cause, name_cause}
+use Rattle.wac_composition.specs.Large.{IsLarge}
 use Rattle.wac_composition.specs.Renaming.{cause_renamed}
 use Rattle.wac_composition.proofs.Against.{causes_stand}
 use Rattle.wac_graph_asks.specs.Graphs.{composition_of}
@@ -16,7 +24,8 @@ use Rattle.wac_graph_causes.specs.declared.errors.ValidationFault.{ValidationFau
 use Rattle.wac_graph_causes.specs.Implicit.{IsKeyOf}
 use Rattle.wac_graph_causes.specs.Sizes.{IsTooLarge}
 use Rattle.wac_graph_encode.specs.declared.options.EncodeOptions.{EncodeOptions}
-use Rattle.wac_graph_encode.specs.Refused.{cause_in, IsErrorFor, IsFree}
+use Rattle.wac_graph_encode.specs.Refused as graph
+use Rattle.wac_graph_encode.specs.Refused.{cause_in, HasLargeProcessor, IsErrorFor, IsFree}
 use Rattle.wac_parser_refusals.specs.declared.error.Error.{Error}
 use Rattle.wac_parser_refusals.specs.Causes.{Fault}
 use Rattle.wac_parser_refusals.specs.Views.{cause_of}
@@ -27,7 +36,10 @@ use Rattle.wac_parser_resolve.specs.Resolved.{Places, asker_place, import_place}
 use Rattle.wac_parser_resolve.proofs.Askers.{askers_placed}
 use Rattle.wac_parser_ascribed.specs.Tied.{IsAscribed, IsPlaced}
 use Rattle.wac_parser_ascribed.proofs.Wired.{ascribed}
-use Rattle.wac_parser_encode.specs.Processing.{IsProcessed}
+use Rattle.wac_parser_resolve.specs.InDocuments.{IsBuilt}
+use Rattle.wac_parser_encode.specs.Processing.{HasProcessor, IsProcessed}
+use Rattle.wac_parser_encode.specs.Sizes.{HasLargeHanded, IsPastSize}
+use Rattle.wac_parser_encode.proofs.Meaning.{entries_said, imports_stated, names_of_graph}
 use Rattle.wac_parser_encode.specs.Refused.{CanBeEncoded, IsFirst, IsOfSize, AreFirstAlike, TellsCause, RefusesResolved, TellsFirst, TellsAnywhere, fault_in}
 
 -- ---- places of askers
@@ -48,9 +60,42 @@ module _ (at : Places) (k : ℕ) where
   merge_told (by_instance key s) p h = ap Some (sym p)
   merge_told by_definition p h = absurd h
 
+-- ---- sizes
+
+own_fits : producers_fit (codes "wac-parser", codes "0.11.0") ≡ true
+unfolding digits digits_by is_utf8 chars encode
+own_fits = refl
+
+none_renamed : {X Y : Type 0} (f : X → Y) (o : Option X) → option_map f o ≡ None → o ≡ None
+none_renamed f None e = refl
+none_renamed f (Some x) e = absurd (none-some _ (sym e))
+
+-- what a graph says of its size holds of the document
+past_size : (g : Graph) (options : EncodeOptions) (sound : IsGraph g) (acyclic : IsAcyclic g.types) (at : Places) (s : State) (b : IsBuilt g at s) → IsAscribed g at s → graph.IsPastSize options g → IsPastSize options s
+past_size g options sound acyclic at s b tied past = record {
+  large = of_large past.large;
+  nested = λ define. (
+      let o = past.nested define in
+      record { entries = o.entries; state = entries_said g sound acyclic at s b tied o.entries o.state; unfit = o.unfit }
+      );
+  imported = λ define names alike. (
+      let o = past.imported define (names_of_graph g sound acyclic at s b names) (alike_too define alike) in
+      record { entries = o.entries; state = imports_stated g sound acyclic at s b tied o.entries o.state; unfit = o.unfit }
+      );
+}
+  where
+    of_large : IsTooLarge g → IsLarge (composition s) ⊎ HasLargeHanded s
+    of_large (inl large) = inl (tied.large large)
+    of_large (inr (k, of)) = inr (package_key of.held, subst (λ (bs : List ℕ). 2 ^ 32 ≤ length bs) (sym (tied.handed k of.held of.is)) of.large)
+
+    alike_too : options.define_components ≡ false → name_cause false options.validate (composition s) ≡ None → name_cause options.define_components options.validate (composition_of g) ≡ None
+    alike_too define none =
+        (λ j. name_cause (define j) options.validate (composition_of g))
+        ∙ none_renamed (cause_renamed tied.asker) (name_cause false options.validate (composition_of g)) (sym (tied.names false options.validate) ∙ none)
+
 -- ---- the first cause
 
-module _ (options : EncodeOptions) (g : Graph) (at : Places) (s : State) (tied : IsAscribed g at s) (asked : (x : cause.Cause Asker) → StandsAgainst options.define_components (composition s) x → IsAskedSo x) where
+module _ (options : EncodeOptions) (g : Graph) (at : Places) (s : State) (tied : IsAscribed g at s) (asked : (x : cause.Cause Asker) → StandsAgainst options.define_components (composition s) x → IsAskedSo x) (past : graph.IsPastSize options g → IsPastSize options s) where
   first_is : (x : cause.Cause ℕ) → first_cause options.define_components (composition_of g) ≡ Some x → first_cause options.define_components (composition s) ≡ Some (cause_renamed tied.asker x)
   first_is x e = tied.cause options.define_components ∙ ap (option_map (cause_renamed tied.asker)) e
 
@@ -85,16 +130,14 @@ module _ (options : EncodeOptions) (g : Graph) (at : Places) (s : State) (tied :
       let two = merge_told at second (tied.asker second) (tied.placed second) a.1 in
       said (cause.ImportTypes n first second) e ∙ (λ j. Some (record { fault = Fault.InstantiationArgMergeFailure n (span_or_none (one j)); span = two j }))
 
-  alike_told : (x : cause.Cause ℕ) → name_cause options.define_components options.validate (composition_of g) ≡ Some x → AreFirstAlike options.define_components options.validate s (cause_said (cause_renamed tied.asker x))
+  alike_told : (x : cause.Cause ℕ) → name_cause options.define_components options.validate (composition_of g) ≡ Some x → AreFirstAlike options s (cause_said (cause_renamed tied.asker x))
   alike_told x e = ap (option_map cause_said) (tied.names options.define_components options.validate ∙ ap (option_map (cause_renamed tied.asker)) e)
 
-  -- a graph that is too large is a document's that is
-  too_large_told : IsTooLarge g → IsOfSize s (record { fault = Fault.TooLarge; span = None })
-  too_large_told (inl large) = (inl (tied.large large), refl)
-  too_large_told (inr (k, of)) =
-      (inr (package_key of.held, subst (λ (bs : List ℕ). 2 ^ 32 ≤ length bs) (sym (tied.handed k of.held of.is)) of.large), refl)
+  too_large_told : (HasLargeProcessor options ⊎ graph.IsPastSize options g) → IsOfSize options s (record { fault = Fault.TooLarge; span = None })
+  too_large_told (inl large) = (inl large, refl)
+  too_large_told (inr of) = (inr (past of), refl)
 
-  told : (e : EncodeError) → IsErrorFor options g e → TellsCause options.define_components options.validate s (fault_in at e)
+  told : (e : EncodeError) → IsErrorFor options g e → TellsCause options s (fault_in at e)
   told (EncodeError.ImplicitImportConflict import filled key n) h = implicit_told (string_bytes n) import filled key h.0 h.1
   told (EncodeError.ExplicitImportConflict n first second) h = explicit_told (string_bytes n) first second h
   told (EncodeError.ImportTypeMergeConflict n first second source) h = merge_failed (string_bytes n) first second h
@@ -107,9 +150,23 @@ module _ (options : EncodeOptions) (g : Graph) (at : Places) (s : State) (tied :
 
 of_document : (g : Graph) (options : EncodeOptions) (e : EncodeError) → IsGraph g → IsAcyclic g.types → IsErrorFor options g e → TellsAnywhere g options e
 unfolding TellsFirst
-of_document g options e sound acyclic h = λ at d ps r q b. told options g at r.0 (ascribed d ps r g at q sound acyclic b) (λ x k. askers_placed d ps r q options.define_components x k) e h
+of_document g options e sound acyclic h = λ at d ps r q b.
+    let tied = ascribed d ps r g at q sound acyclic b in
+    told options g at r.0 tied (λ x k. askers_placed d ps r q options.define_components x k) (past_size g options sound acyclic at r.0 b tied) e h
 
 -- ---- with a processor, and else the same options
+
+abbrev Large : Option Processor → Type 0
+Large o = producers_if_fit (option_map processor_view o) ≡ false
+
+-- this project's name fits
+large_processor : (old new : EncodeOptions) → IsProcessed old new → HasLargeProcessor new → HasLargeProcessor old
+large_processor old new is large = by old.processor new.processor is.processor large
+  where
+    by : (o p : Option Processor) → HasProcessor o p → Large p → Large o
+    by (Some x) p same h = subst Large same h
+    by None None same h = absurd same
+    by None (Some q) same h = absurd (true≢false (sym own_fits ∙ (λ j. producers_fit (sym same.0 j, sym same.1 j)) ∙ h))
 
 processed : (g : Graph) (old new : EncodeOptions) (e : EncodeError) → IsProcessed old new → IsErrorFor new g e → IsErrorFor old g e
 processed g old new e is h = by e (subst (λ (b : Bool). IsErrorFor (record new { define_components = b }) g e) is.define h)
@@ -119,7 +176,8 @@ processed g old new e is h = by e (subst (λ (b : Bool). IsErrorFor (record new 
     by (EncodeError.ExplicitImportConflict n first second) h = h
     by (EncodeError.ImportTypeMergeConflict n first second source) h = h
     by (EncodeError.TypeCannotBeWritten n) h = h
-    by EncodeError.TooLarge h = h
+    by EncodeError.TooLarge (inl large) = inl (large_processor old new is large)
+    by EncodeError.TooLarge (inr past) = inr (record { large = past.large; nested = past.nested; imported = λ define names alike. past.imported define names ((λ j. name_cause old.define_components (is.validate j) (composition_of g)) ∙ alike) })
     by (EncodeError.ValidationFailure fault) h = (λ j. name_cause old.define_components (sym is.validate j) (composition_of g)) ∙ h
     by (EncodeError.GraphContainsCycle node) h = absurd h
     by EncodeError.Memory h = tt

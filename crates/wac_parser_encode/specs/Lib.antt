@@ -1,3 +1,4 @@
 pub mod Processing
 pub mod Meaning
+pub mod Sizes
 pub mod Refused

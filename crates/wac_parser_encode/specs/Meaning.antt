@@ -65,7 +65,7 @@ pub record ImportsIn (s : State) (worlds : Worlds) (bytes : List ℕ) : Type 0 w
   pub meant : Wiring ℕ
   pub means : Means worlds bytes meant
   pub same : Same (composed_wiring imported_tag (composition s)) meant
-  pub packages : (m : Made) → Among m s.made → Among (dependency_name m.key, tree m.world) means.last.listed.imports
+  pub packages : (m : Made) → Among m s.made → Among (dependency_name m.key, tree m.world) means.states.last.listed.imports
 
 abbrev pub ImportsAscribed : State → List ℕ → Type 0
 ImportsAscribed s bytes =

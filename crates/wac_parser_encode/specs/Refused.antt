@@ -1,29 +1,26 @@
 -- Why a resolved document is not encoded: the first cause that stands against what it says, with its places. And against one
 -- that is encoded none stands.
-use Rattle.std.specs.Prelude.{◌≡◌, ◌⊎◌, ◌≤◌, ◌^◌, Bool, List, Option, Some, None, Ok, length, option_map, string_bytes}
+use Rattle.std.specs.Prelude.{◌≡◌, ◌⊎◌, Bool, List, Option, Some, None, Ok, option_map, string_bytes}
 use Rattle.wac_types_base.specs.declared.item.ExternKind.{ExternKind}
-use Rattle.wac_types_base.specs.Entries.{Name}
 use Rattle.wac_types_base.specs.Stated.{Stated}
 use Rattle.wac_types_names.specs.Keys.{Key, owned_key}
 use Rattle.wac_graph_core.specs.Graph.{Graph}
-use Rattle.wac_composition.specs.Conflicts as cause
 use Rattle.wac_composition.specs.Conflicts.{first_cause, name_cause}
-use Rattle.wac_composition.specs.Large.{IsLarge}
 use Rattle.wac_graph_causes.specs.declared.errors.EncodeError.{EncodeError}
 use Rattle.wac_graph_causes.specs.declared.errors.ValidationFault.{ValidationFault}
 use Rattle.wac_graph_encode.specs.declared.options.EncodeOptions.{EncodeOptions}
+use Rattle.wac_graph_encode.specs.Refused.{HasLargeProcessor}
 use Rattle.wac_parser_tree.specs.Trees as t
 use Rattle.wac_parser_refusals.specs.declared.error.Error.{Error}
 use Rattle.wac_parser_refusals.specs.Causes.{Cause, Fault}
 use Rattle.wac_parser_refusals.specs.Views.{anywhere, at_place, cause_of}
 use Rattle.wac_parser_declare.specs.Packages.{Content}
-use Rattle.wac_parser_declare.specs.Scope.{package_under}
-use Rattle.wac_parser_ascribed.specs.Tied.{handed_bytes}
-use Rattle.wac_parser_resolve.specs.Ascribed.{Asker, cause_said, composition}
+use Rattle.wac_parser_resolve.specs.Ascribed.{cause_said, composition}
 use Rattle.wac_parser_resolve.specs.Ascribing.{State}
 use Rattle.wac_parser_resolve.specs.InDocuments.{IsBuilt}
 use Rattle.wac_parser_resolve.specs.Meeting.{resolved}
 use Rattle.wac_parser_resolve.specs.Resolved.{Places, asker_place, import_place}
+use Rattle.wac_parser_encode.specs.Sizes.{IsPastSize}
 
 -- ---- the fault that is told
 
@@ -54,23 +51,19 @@ module _ (define : Bool) (s : State) where
   abbrev pub IsFirst : Cause → Type 0
   IsFirst c = option_map cause_said (first_cause define (composition s)) ≡ Some c
 
--- a package that is handed in has more bytes than a size of 32 bits counts
-abbrev pub HasLargeHanded : State → Type 0
-HasLargeHanded s = (k : Key) × (2 ^ 32 ≤ length (handed_bytes (package_under s.packages k)))
+-- It passes 32 bits: what is said, or what is said to have written the component. That has no place.
+abbrev pub IsOfSize : EncodeOptions → State → Cause → Type 0
+IsOfSize options s c = (HasLargeProcessor options ⊎ IsPastSize options s) × (c.span ≡ None)
 
--- what is said is too large: its composition is, or a package; that has no place
-abbrev pub IsOfSize : State → Cause → Type 0
-IsOfSize s c = (IsLarge (composition s) ⊎ HasLargeHanded s) × (c.span ≡ None)
-
-module _ (define validate : Bool) (s : State) where
+module _ (options : EncodeOptions) (s : State) where
   -- these are the first names that are alike
   abbrev pub AreFirstAlike : Cause → Type 0
-  AreFirstAlike c = option_map cause_said (name_cause define validate (composition s)) ≡ Some c
+  AreFirstAlike c = option_map cause_said (name_cause options.define_components options.validate (composition s)) ≡ Some c
 
   abbrev pub IsToldFault : Fault → Cause → Type 0
   IsToldFault (Fault.ValidationFailure kind m n) c = AreFirstAlike c
-  IsToldFault Fault.TooLarge c = IsOfSize s c
-  IsToldFault f c = IsFirst define s c
+  IsToldFault Fault.TooLarge c = IsOfSize options s c
+  IsToldFault f c = IsFirst options.define_components s c
 
   -- it is the first cause, with its fields and its place; want of memory may always be answered
   abbrev pub TellsCause : Option Cause → Type 0
@@ -84,7 +77,7 @@ OfEach g at P =
 
 -- Where the graph holds what a document says, which stands at these places, the error is the document's first cause.
 unfoldable pub TellsFirst : Graph → EncodeOptions → Places → Option Cause → Type 0
-TellsFirst g options at o = OfEach g at (λ s. TellsCause options.define_components options.validate s o)
+TellsFirst g options at o = OfEach g at (λ s. TellsCause options s o)
 
 -- so it is of a refusal of the graph, wherever its nodes stand
 abbrev pub TellsAnywhere : Graph → EncodeOptions → EncodeError → Type 0

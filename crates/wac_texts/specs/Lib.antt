@@ -1,4 +1,5 @@
 pub mod Files
 pub mod Places
+pub mod Declarations
 pub mod Worlds
 pub mod Plugs

@@ -30,9 +30,14 @@ pub record IsDefined (g : Graph) (name : Name) (world : WorldId) : Type 0 where
 -- why no world is given: the document declares nothing under the name, or something else, or the graph defines no such world
 abbrev pub IsNotGiven : Graph → Declares → (name : Name) → DeclaredWorldError → Type 0
 IsNotGiven g declares name DeclaredWorldError.NotDeclared =
-    (declares ≡ Declares.Nothing) ⊎ ((w : WorldId) → IsDefined g name w → ⊥)
+    (declares ≡ Declares.Nothing) ⊎ ((declares ≡ Declares.World) × ((w : WorldId) → IsDefined g name w → ⊥))
 IsNotGiven g declares name DeclaredWorldError.NotWorld = declares ≡ Declares.Other
 IsNotGiven g declares name DeclaredWorldError.Memory = ⊥
+
+-- the same, or memory was short
+abbrev pub RefusesWorld : Graph → Declares → (name : Name) → DeclaredWorldError → Type 0
+RefusesWorld g declares name DeclaredWorldError.Memory = Unit {0}
+RefusesWorld g declares name fault = IsNotGiven g declares name fault
 
 -- a copy of a world that the graph defines under that name, in a collection of this number
 pub record IsDeclared (g : Graph) (name : Name) (number : ℕ) (types : Collection) (world : WorldId) : Type 0 where

@@ -1,11 +1,15 @@
 //! Worlds that documents declare.
 
-ghost use Rattle.std.specs.Prelude.{◌≡◌, IfOk, IfErr, IfSome, OnOk, None};
+ghost use Rattle.std.specs.Prelude.{◌≡◌, IfOk, IfErr, IfSome, OnOk, None, if◌then◌else◌};
 ghost use Rattle.wac_types_base.specs.declared.ids.WorldId.{WorldId};
 ghost use Rattle.wac_types_base.specs.declared.item.«Type».{«Type» as TypeKind};
-ghost use Rattle.wac_parser_resolve.specs.Resolved.{graph_of};
+ghost use Rattle.wac_parser_tree.specs.Trees.{Document as Tree};
+ghost use Rattle.wac_parser_tree.specs.Views.{view_document, view_statement, view_type_statement};
+ghost use Rattle.wac_parser_resolve.specs.Resolved.{document_of, graph_of};
+ghost use Rattle.wac_texts.specs.declared.declared.DeclaredWorldError.{DeclaredWorldError};
 ghost use Rattle.wac_texts.specs.declared.declared.Declares.{Declares};
-ghost use Rattle.wac_texts.specs.Worlds.{DefinesType, IsDefined, IsDeclared, IsNotGiven};
+ghost use Rattle.wac_texts.specs.Declarations.{declared_as, declared_by, declared_in};
+ghost use Rattle.wac_texts.specs.Worlds.{DefinesType, IsDefined, IsDeclared, IsNotGiven, RefusesWorld};
 
 use std::alloc::{AllocError, Global};
 use thiserror::Error;
@@ -28,6 +32,8 @@ pub enum DeclaredWorldError {
 }
 
 impl From<AllocError> for DeclaredWorldError {
+    ghost from_gives = { λ _ e. e ≡ DeclaredWorldError.Memory };
+
     fn from(_: AllocError) -> Self {
         DeclaredWorldError::Memory
     }
@@ -43,7 +49,9 @@ pub enum Declares {
 }
 
 /// Something else, where the names are the same.
-fn other_where(is_same: bool) -> Declares {
+fn other_where(is_same: bool) -> Declares
+    ensures { result ≡ (if is_same then Declares.Other else Declares.Nothing) }
+{
     if is_same {
         Declares::Other
     } else {
@@ -52,7 +60,9 @@ fn other_where(is_same: bool) -> Declares {
 }
 
 /// What the declaration of a type declares under a name.
-fn type_declares(statement: &TypeStatement<'_>, name: &str) -> Declares {
+fn type_declares(statement: &TypeStatement<'_>, name: &str) -> Declares
+    ensures { result ≡ declared_as (view_type_statement statement.now) name.now }
+{
     match statement {
         TypeStatement::World(world) => {
             if world.id.string == name {
@@ -67,7 +77,9 @@ fn type_declares(statement: &TypeStatement<'_>, name: &str) -> Declares {
 }
 
 /// What a statement declares under a name.
-fn statement_declares(statement: &Statement<'_>, name: &str) -> Declares {
+fn statement_declares(statement: &Statement<'_>, name: &str) -> Declares
+    ensures { result ≡ declared_by (view_statement statement.now) name.now }
+{
     match statement {
         Statement::Ty(ty) => type_declares(ty, name),
         Statement::Import(_) | Statement::Let(_) | Statement::Export(_) => Declares::Nothing,
@@ -75,7 +87,9 @@ fn statement_declares(statement: &Statement<'_>, name: &str) -> Declares {
 }
 
 /// What the statements of a document declare under a name.
-fn document_declares(document: &Document<'_>, name: &str) -> Declares {
+fn document_declares(document: &Document<'_>, name: &str) -> Declares
+    ensures { result ≡ declared_in (view_document document.now) name.now }
+{
     for statement in &document.statements {
         match statement_declares(statement, name) {
             Declares::Nothing => {}
@@ -87,11 +101,16 @@ fn document_declares(document: &Document<'_>, name: &str) -> Declares {
 
 /// Documents that declare types.
 pub trait DeclareDocument: Sized {
+    ghost stated: { Self → Tree };
+
     /// What the document declares under a name.
-    fn declares(&self, name: &str) -> Declares;
+    fn declares(&self, name: &str) -> Declares
+        ensures { result ≡ declared_in (stated self.now) name.now };
 }
 
 impl<'s> DeclareDocument for Document<'s> {
+    ghost stated = { view_document };
+
     fn declares(&self, name: &str) -> Declares {
         document_declares(self, name)
     }
@@ -155,7 +174,9 @@ fn copied_world(
     name: &str,
     number: u64,
 ) -> Result<(Types, WorldId), DeclaredWorldError>
-    ensures { IfOk result (λ r. IsDeclared graph.now name.now number r.0 r.1) }
+    ensures world { IfOk result (λ r. IsDeclared graph.now name.now number r.0 r.1) }
+    ensures declared { OnOk result (declares ≡ Declares.World) }
+    ensures refused { IfErr result (RefusesWorld graph.now declares name.now) }
 {
     let world = world_in(graph, declares, name)?;
     let mut types = Types::new(alloc, number);
@@ -172,7 +193,10 @@ pub fn declared_world<'d, D: DeclareDocument>(
     name: &str,
     number: u64,
 ) -> Result<(Types, WorldId), DeclaredWorldError>
-    ensures { IfOk result (λ r. IsDeclared (graph_of resolution.now) name.now number r.0 r.1) }
+    ensures world { IfOk result (λ r. IsDeclared (graph_of resolution.now) name.now number r.0 r.1) }
+    ensures declared { OnOk result (declared_in (D.stated (document_of resolution.now)) name.now ≡ Declares.World) }
+    ensures refused { IfErr result
+        (RefusesWorld (graph_of resolution.now) (declared_in (D.stated (document_of resolution.now)) name.now) name.now) }
 {
     let declares = resolution.document().declares(name);
     copied_world(alloc, resolution.graph(), declares, name, number)

@@ -1,8 +1,7 @@
 -- What is answered of a document over packages.
 use Rattle.std.specs.Prelude.{IfErr, OnOk}
-use Rattle.std.proofs.Common.{◌≡◌, ℕ, Bool, List, Option, Some, None, Result, Ok, Err, IfOk, true, false, refl, sym, subst, ◌∙◌, inl, inr}
+use Rattle.std.proofs.Common.{◌≡◌, ◌+◌, ◌≤◌, ℕ, Bool, List, Option, Some, None, Result, Ok, Err, IfOk, true, false, refl, sym, subst, ◌∙◌, inl, inr}
 use Rattle.wac_types_base.specs.declared.ids.WorldId.{WorldId}
-use Rattle.wac_types_base.specs.Entries.{Name}
 use Rattle.wac_types_base.specs.Stated.{Stated, stated_world}
 use Rattle.wac_graph_core.specs.Graph.{Graph}
 use Rattle.wac_graph_encode.specs.declared.options.EncodeOptions.{EncodeOptions}
@@ -24,13 +23,13 @@ use Rattle.wac_parser_resolve.specs.Resolved.{Places}
 use Rattle.wac_types_base.specs.Record.{Collection}
 use Rattle.wac_parser_encode.specs.Meaning.{HasResolvedWorld, ImportsResolved, MeansResolved}
 use Rattle.wac_parser_encode.specs.Refused.{CanBeEncoded, HasNoCause, TellsCause, TellsFirst}
-use Rattle.wac_workspace.specs.Composing.{ImportsSaid, AreAscribedBytes, AreImportingBytes, IsImporting, IsMeant, MeansSaid}
+use Rattle.wac_workspace.specs.Composing.{greatest, ImportsSaid, AreAscribedBytes, AreImportingBytes, IsImporting, IsMeant, MeansSaid}
 use Rattle.wac_workspace.specs.declared.output.Output.{Output}
 use Rattle.wac_workspace.specs.declared.errors.ComposeError.{ComposeError}
 use Rattle.wac_workspace.specs.declared.errors.ComposeError.TheVariants as error
 use Rattle.wac_workspace.specs.Faults.{IsResolving}
 use Rattle.wac_workspace.specs.Resolving.{FailsIf, Handed, Resolves, IsAccepted, IsComposition, IsGraphOf, IsLate, IsOfResolving, IsTargetUnmet, NamesFirst}
-use Rattle.wac_workspace.specs.Steps.{FailsIn, IsAfterwards, IsUnmet, MeetsTargetOf}
+use Rattle.wac_workspace.specs.Steps.{FailsIn, IsAfterwards, IsUnencoded, IsUnmet, MeetsTargetOf}
 use Rattle.wac_workspace.specs.Targets.{Meets, MeetsIf}
 
 -- a document that is resolved, and what it says has no cause
@@ -52,21 +51,48 @@ graph_held graph places target (Ok s) b g same h = (places b, subst (λ (x : Gra
 graph_held graph places target (Err c) b g same h = absurd h
 
 -- want of memory may always be answered
-memory_tells : (define : Bool) (s : State) (o : Option Cause) → IsMemory o → TellsCause define true s o
-memory_tells define s None h = tt
-memory_tells define s (Some c) h = absurd h
+memory_tells : (options : EncodeOptions) (s : State) (o : Option Cause) → IsMemory o → TellsCause options s o
+memory_tells options s None h = tt
+memory_tells options s (Some c) h = absurd h
 
-names_first : (define : Bool) (q : Resolves) (f : Error) → IsErrorOf q f → NamesFirst define q f
-names_first define (Ok s) f h = memory_tells define s.0 (cause_of f) h
-names_first define (Err c) f h = h
+names_first : (options : EncodeOptions) (q : Resolves) (f : Error) → IsErrorOf q f → NamesFirst options q f
+names_first options (Ok s) f h = memory_tells (record options { validate = true }) s.0 (cause_of f) h
+names_first options (Err c) f h = h
 
 pub of_resolving : (q : Resolves) (f : Error) (e : ComposeError) → IsErrorOf q f → IsResolving f e → IsOfResolving q e
 of_resolving q f e h (inl m) = subst (λ (x : ComposeError). IsOfResolving q x) (sym m.1) tt
 of_resolving q f e h (inr s) = subst (λ (x : ComposeError). IsOfResolving q x) (sym s) h
 
-pub late_resolving : (define : Bool) (q : Resolves) (f : Error) (e : ComposeError) → IsErrorOf q f → IsResolving f e → IsLate define q e
-late_resolving define q f e h (inl m) = subst (λ (x : ComposeError). IsLate define q x) (sym m.1) tt
-late_resolving define q f e h (inr s) = subst (λ (x : ComposeError). IsLate define q x) (sym s) (names_first define q f h)
+pub late_resolving : (options : EncodeOptions) (q : Resolves) (f : Error) (e : ComposeError) → IsErrorOf q f → IsResolving f e → IsLate options q e
+late_resolving options q f e h (inl m) = subst (λ (x : ComposeError). IsLate options q x) (sym m.1) tt
+late_resolving options q f e h (inr s) = subst (λ (x : ComposeError). IsLate options q x) (sym s) (names_first options q f h)
+
+-- names are tested in any case
+late_tested : (options tested : EncodeOptions) (q : Resolves) (e : ComposeError) → tested ≡ record options { validate = true } → IsLate tested q e → IsLate options q e
+late_tested options tested q e same h = by e q (subst (λ (o : EncodeOptions). IsLate o q e) same h)
+  where
+    by : (e : ComposeError) (q : Resolves) → IsLate (record options { validate = true }) q e → IsLate options q e
+    by (error.Resolution f) (Ok s) h = h
+    by (error.Resolution f) (Err c) h = h
+    by (error.Target r) q h = h
+    by error.Memory q h = h
+    by (error.Parse x) q h = h
+    by error.NumbersExhausted q h = h
+    by error.KeyTaken q h = h
+    by error.BytesTaken q h = h
+
+-- with three numbers left
+pub unencoded : (next : ℕ) (options tested : EncodeOptions) (q : Resolves) (e : ComposeError) → tested ≡ record options { validate = true } → next + 3 ≤ greatest → IsLate tested q e → IsUnencoded next options q e
+unencoded next options tested q e same room h = by e (late_tested options tested q e same h)
+  where
+    by : (e : ComposeError) → IsLate options q e → IsUnencoded next options q e
+    by (error.Resolution f) h = (room, h)
+    by (error.Target r) h = (room, h)
+    by error.Memory h = tt
+    by (error.Parse x) h = absurd h
+    by error.NumbersExhausted h = absurd h
+    by error.KeyTaken h = absurd h
+    by error.BytesTaken h = absurd h
 
 -- ---- behind resolving
 
@@ -102,20 +128,20 @@ meeting g types world (Some w) (Some t) held m = subst (λ (x : Stated). Meets x
 -- of a document that the graph holds
 module _ {B : Type 0} (graph : B → Graph) (places : B → Places) (target : B → Option WorldId) where
   late_of : (d : t.Document) (ps : Handed) (b : B) (options : EncodeOptions) (e : ComposeError) → options.validate ≡ true → (q : Resolves) → resolved d ps ≡ q
-      → IsHeld (λ s (b : B). HoldsAll s (graph b) (places b) (target b)) q b → IsAfterwards (graph b) (places b) (target b) options e → IsLate options.define_components q e
+      → IsHeld (λ s (b : B). HoldsAll s (graph b) (places b) (target b)) q b → IsAfterwards (graph b) (places b) (target b) options e → IsLate options q e
   unfolding TellsFirst IsTargetUnmet
   late_of d ps b options e validate (Err c) is built h = absurd built
   late_of d ps b options (error.Parse x) validate (Ok s) is built h = absurd h
   late_of d ps b options error.NumbersExhausted validate (Ok s) is built h = absurd h
   late_of d ps b options (error.Resolution f) validate (Ok s) is built h =
-      subst (λ (v : Bool). TellsCause options.define_components v s.0 (cause_of f)) validate (h d ps s is built.0)
+      subst (λ (v : Bool). TellsCause (record options { validate = v }) s.0 (cause_of f)) validate (h d ps s is built.0)
   late_of d ps b options (error.Target r) validate (Ok s) is built h = failing d ps (graph b) (places b) s.0 built.0 s.1 (target b) is built.1 h
   late_of d ps b options error.KeyTaken validate (Ok s) is built h = absurd h
   late_of d ps b options error.BytesTaken validate (Ok s) is built h = absurd h
   late_of d ps b options error.Memory validate (Ok s) is built h = tt
 
   pub late_afterwards : {A : Type 0} (d : t.Document) (ps : Handed) (b : B) (options : EncodeOptions) (r : Result A ComposeError) → options.validate ≡ true
-      → IsHeld (λ s (b : B). HoldsAll s (graph b) (places b) (target b)) (resolved d ps) b → IfErr r (IsAfterwards (graph b) (places b) (target b) options) → IfErr r (IsLate options.define_components (resolved d ps))
+      → IsHeld (λ s (b : B). HoldsAll s (graph b) (places b) (target b)) (resolved d ps) b → IfErr r (IsAfterwards (graph b) (places b) (target b) options) → IfErr r (IsLate options (resolved d ps))
   late_afterwards d ps b options (Ok a) validate built h = tt
   late_afterwards d ps b options (Err e) validate built h = late_of d ps b options e validate (resolved d ps) refl built h
 

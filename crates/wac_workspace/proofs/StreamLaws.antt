@@ -1,6 +1,7 @@
 -- The last call of a stream.
-use Rattle.std.proofs.Common.{◌≡◌, ℕ, List, Bool, Result, Ok, Err, sym, subst}
+use Rattle.std.proofs.Common.{◌≡◌, ℕ, List, Result, Ok, Err, sym, subst}
 use Rattle.std.specs.Prelude.{OnErr, IfErr, IsErrOf}
+use Rattle.wac_graph_encode.specs.declared.options.EncodeOptions.{EncodeOptions}
 use Rattle.wac_workspace.specs.declared.output.Output.{Output}
 use Rattle.wac_workspace.specs.declared.errors.StreamError.{StreamError}
 use Rattle.wac_workspace.specs.declared.errors.StreamError.TheVariants as error
@@ -9,9 +10,9 @@ use Rattle.wac_workspace.specs.Composing.{ComposesSource}
 use Rattle.wac_streams.specs.Calls.{AppendsPrefix}
 use Rattle.wac_workspace.specs.Streaming.{Ends, IsText, IsStopped}
 
-pub write_stopped : {T : Type 0} {P : Type 0} (old new : Held) (define : Bool) (ends : Ends) (source : List ℕ) (o : Output) (r : Result T StreamError)
-    → IsText ends.read ends.unread source → ComposesSource old new source define o → (P → AppendsPrefix ends.written ends.known o.bytes.items) → OnErr r (IsErrOf r error.Write) → OnErr r P → IfErr r (IsStopped old new define ends)
-write_stopped old new define ends source o (Ok x) text composed front only h = tt
-write_stopped old new define ends source o (Err e) text composed front only h =
+pub write_stopped : {T : Type 0} {P : Type 0} (old new : Held) (options : EncodeOptions) (ends : Ends) (source : List ℕ) (o : Output) (r : Result T StreamError)
+    → IsText ends.read ends.unread source → ComposesSource old new source options.define_components o → (P → AppendsPrefix ends.written ends.known o.bytes.items) → OnErr r (IsErrOf r error.Write) → OnErr r P → IfErr r (IsStopped old new options ends)
+write_stopped old new options ends source o (Ok x) text composed front only h = tt
+write_stopped old new options ends source o (Err e) text composed front only h =
     let same : e ≡ error.Write = cc in
-    subst (λ (x : StreamError). IsStopped old new define ends x) (sym same) (source, o, text, composed, front h)
+    subst (λ (x : StreamError). IsStopped old new options ends x) (sym same) (source, o, text, composed, front h)

@@ -156,26 +156,27 @@ IsUnresolved ps source error.Memory = Unit {0}
 IsUnresolved ps source e = ⊥
 
 -- why a source has no output, whatever stands in the workspace under its key
-abbrev pub IsUnmade : ℕ → Handed → List ℕ → (define : Bool) → ComposeError → Type 0
-IsUnmade next ps source define (error.Parse f) = read_source document source ≡ Err (fault_of f)
-IsUnmade next ps source define error.NumbersExhausted = (d : Document) × IsDocument source d × (greatest < next + 3)
-IsUnmade next ps source define (error.Resolution f) = IsTried next ps source (λ q. NamesFirst define q f)
-IsUnmade next ps source define (error.Target r) = IsTried next ps source IsTargetUnmet
-IsUnmade next ps source define error.KeyTaken = ⊥
-IsUnmade next ps source define error.BytesTaken = ⊥
-IsUnmade next ps source define error.Memory = Unit {0}
+abbrev pub IsUnmade : ℕ → Handed → List ℕ → EncodeOptions → ComposeError → Type 0
+IsUnmade next ps source options (error.Parse f) = read_source document source ≡ Err (fault_of f)
+IsUnmade next ps source options error.NumbersExhausted = (d : Document) × IsDocument source d × (greatest < next + 3)
+IsUnmade next ps source options (error.Resolution f) = IsTried next ps source (λ q. NamesFirst options q f)
+IsUnmade next ps source options (error.Target r) = IsTried next ps source IsTargetUnmet
+IsUnmade next ps source options error.KeyTaken = ⊥
+IsUnmade next ps source options error.BytesTaken = ⊥
+IsUnmade next ps source options error.Memory = Unit {0}
 
 -- bytes that are what the source means are a handed component's
 abbrev pub MeansHanded : Held → List ℕ → Type 0
 MeansHanded w source = (bytes : List ℕ) × HasHanded w.packages bytes × IsMeantBy (handed w.packages) source bytes
 
 -- The causes of a refusal, in their order: that of the source, its key, its bytes.
-abbrev pub IsRefused : Held → List ℕ → (define : Bool) → ComposeError → Type 0
-IsRefused w source define error.KeyTaken =
-    (define ≡ true) × CanBeComposed w.next (handed w.packages) source define × WithKey source (HasKey w.packages)
-IsRefused w source define error.BytesTaken =
-    (define ≡ true)
-    × CanBeComposed w.next (handed w.packages) source define
+abbrev pub IsRefused : Held → List ℕ → EncodeOptions → ComposeError → Type 0
+IsRefused w source options error.KeyTaken =
+    (options.define_components ≡ true) × CanBeComposed w.next (handed w.packages) source options.define_components
+    × WithKey source (HasKey w.packages)
+IsRefused w source options error.BytesTaken =
+    (options.define_components ≡ true)
+    × CanBeComposed w.next (handed w.packages) source options.define_components
     × WithKey source (λ k. HasKey w.packages k → ⊥)
     × MeansHanded w source
-IsRefused w source define e = IsUnmade w.next (handed w.packages) source define e
+IsRefused w source options e = IsUnmade w.next (handed w.packages) source options e

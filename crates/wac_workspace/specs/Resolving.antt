@@ -21,6 +21,7 @@ use Rattle.wac_parser_resolve.specs.Knowing.{content_of, handed_list}
 use Rattle.wac_parser_resolve.specs.Meeting.{resolved}
 use Rattle.wac_parser_resolve.specs.Resolved.{Places}
 use Rattle.wac_parser_encode.specs.Meaning.{IsWorldOf}
+use Rattle.wac_graph_encode.specs.declared.options.EncodeOptions.{EncodeOptions}
 use Rattle.wac_parser_encode.specs.Refused.{TellsCause}
 use Rattle.wac_workspace.specs.declared.entries.Entry.{Entry}
 use Rattle.wac_workspace.specs.declared.errors.ComposeError.{ComposeError}
@@ -61,10 +62,10 @@ abbrev pub Accepts : {S : Type 0} → (define : Bool) → Document → IndexMap 
 Accepts define d ps = IsAccepted (ascribed define d (handed_list ps))
 
 -- The error names the first cause that stands against the document; where none does, the first one that stands against encoding
--- what it says, with components defined or not, and with names tested.
-abbrev pub NamesFirst : (define : Bool) → Resolves → Error → Type 0
-NamesFirst define (Ok s) e = TellsCause define true s.0 (cause_of e)
-NamesFirst define (Err c) e = Tells (cause_of e) c
+-- what it says in this way, with names tested.
+abbrev pub NamesFirst : EncodeOptions → Resolves → Error → Type 0
+NamesFirst options (Ok s) e = TellsCause (record options { validate = true }) s.0 (cause_of e)
+NamesFirst options (Err c) e = Tells (cause_of e) c
 
 -- each ask of what is said is met; the world states what it asks of the outside and what it exports, and meets the target that
 -- is named
@@ -96,8 +97,8 @@ IsOfResolving q e = ⊥
 
 -- why a document has no component that meets its target: its first cause, or that of encoding it; or its target is not met; or
 -- want of memory
-abbrev pub IsLate : (define : Bool) → Resolves → ComposeError → Type 0
-IsLate define q (error.Resolution f) = NamesFirst define q f
-IsLate define q (error.Target r) = IsTargetUnmet q
-IsLate define q error.Memory = Unit {0}
-IsLate define q e = ⊥
+abbrev pub IsLate : EncodeOptions → Resolves → ComposeError → Type 0
+IsLate options q (error.Resolution f) = NamesFirst options q f
+IsLate options q (error.Target r) = IsTargetUnmet q
+IsLate options q error.Memory = Unit {0}
+IsLate options q e = ⊥

@@ -1,5 +1,5 @@
 -- Single steps of composing.
-use Rattle.std.specs.Prelude.{◌≡◌, ℕ, ◌+◌, ◌<◌, ◌≤◌, Bool, Option, Some, None}
+use Rattle.std.specs.Prelude.{◌≡◌, ℕ, ◌+◌, ◌<◌, ◌≤◌, Option, Some, None}
 use Rattle.wac_types_base.specs.declared.ids.WorldId.{WorldId}
 use Rattle.wac_types_base.specs.declared.item.ItemKind.{ItemKind}
 use Rattle.wac_types_base.specs.Record.{Collection}
@@ -93,9 +93,9 @@ pub record IsOf (next : ℕ) (p : PackageName) (o : Output) : Type 0 where
   pub stands : Stands o.types (ItemKind.Component o.world)
 
 -- why a document has no output: the numbers, or behind them a late fault
-abbrev pub IsUnencoded : ℕ → (define : Bool) → Resolves → ComposeError → Type 0
-IsUnencoded next define q error.NumbersExhausted = greatest < next + 3
-IsUnencoded next define q (error.Resolution f) = (next + 3 ≤ greatest) × NamesFirst define q f
-IsUnencoded next define q (error.Target r) = (next + 3 ≤ greatest) × IsTargetUnmet q
-IsUnencoded next define q error.Memory = Unit {0}
-IsUnencoded next define q e = ⊥
+abbrev pub IsUnencoded : ℕ → EncodeOptions → Resolves → ComposeError → Type 0
+IsUnencoded next options q error.NumbersExhausted = greatest < next + 3
+IsUnencoded next options q (error.Resolution f) = (next + 3 ≤ greatest) × NamesFirst options q f
+IsUnencoded next options q (error.Target r) = (next + 3 ≤ greatest) × IsTargetUnmet q
+IsUnencoded next options q error.Memory = Unit {0}
+IsUnencoded next options q e = ⊥

@@ -2,6 +2,7 @@
 use Rattle.std.specs.Prelude.{◌≡◌, ◌≤◌, ℕ, List, [], Bool, Option, length}
 use Rattle.std.specs.Io.KnownBytes.{Appends}
 use Rattle.std.specs.Str.{IsUtf8}
+use Rattle.wac_graph_encode.specs.declared.options.EncodeOptions.{EncodeOptions}
 use Rattle.wac_workspace.specs.declared.output.Output.{Output}
 use Rattle.wac_workspace.specs.declared.errors.StreamError.{StreamError}
 use Rattle.wac_workspace.specs.declared.errors.StreamError.TheVariants as error
@@ -36,17 +37,17 @@ pub record IsStreamed (old new : Held) (define : Bool) (ends : Ends) : Type 0 wh
   pub wrote : Appends ends.written ends.known output.bytes.items
 
 -- The cause of each refusal; where writing failed the source is composed, and else nothing changed and nothing is written.
-abbrev pub IsStopped : Held → Held → (define : Bool) → Ends → StreamError → Type 0
-IsStopped old new define ends error.Read = (new ≡ old) × Appends ends.written ends.known []
-IsStopped old new define ends error.SourceTooLong =
+abbrev pub IsStopped : Held → Held → EncodeOptions → Ends → StreamError → Type 0
+IsStopped old new options ends error.Read = (new ≡ old) × Appends ends.written ends.known []
+IsStopped old new options ends error.SourceTooLong =
     (new ≡ old) × HasTooMany ends.read × Appends ends.written ends.known []
-IsStopped old new define ends error.NotUtf8 =
+IsStopped old new options ends error.NotUtf8 =
     (new ≡ old) × ((source : List ℕ) × IsWhole ends.read ends.unread source × (IsUtf8 source → ⊥))
     × Appends ends.written ends.known []
-IsStopped old new define ends (error.Compose e) =
-    (new ≡ old) × ((source : List ℕ) × IsText ends.read ends.unread source × IsRefused old source define e)
+IsStopped old new options ends (error.Compose e) =
+    (new ≡ old) × ((source : List ℕ) × IsText ends.read ends.unread source × IsRefused old source options e)
     × Appends ends.written ends.known []
-IsStopped old new define ends error.Write =
-    (source : List ℕ) × (o : Output) × IsText ends.read ends.unread source × ComposesSource old new source define o
-    × AppendsPrefix ends.written ends.known o.bytes.items
-IsStopped old new define ends error.Memory = (new ≡ old) × Appends ends.written ends.known []
+IsStopped old new options ends error.Write =
+    (source : List ℕ) × (o : Output) × IsText ends.read ends.unread source
+    × ComposesSource old new source options.define_components o × AppendsPrefix ends.written ends.known o.bytes.items
+IsStopped old new options ends error.Memory = (new ≡ old) × Appends ends.written ends.known []

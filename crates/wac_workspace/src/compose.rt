@@ -189,7 +189,7 @@ fn encode_document(
         (λ e. ImportsSaid options (says (view_document document.now) «packages».now) e.bytes.items) }
     ensures accepted { OnOk result (Accepts options.define_components (view_document document.now) «packages».now) }
     ensures composed { IfOk result (λ e. IsComposition (says (view_document document.now) «packages».now) e.types e.world) }
-    ensures late { IfErr result (IsLate options.define_components (says (view_document document.now) «packages».now)) }
+    ensures late { IfErr result (IsLate options (says (view_document document.now) «packages».now)) }
 {
     let name = String::from_str(alloc, target_name(&document.directive))?;
     let resolution = AstResolver::new(document).resolve(alloc, packages, numbers.graph)?;
@@ -217,8 +217,7 @@ fn output_of(
 
 /// The options, with names tested.
 fn validated(options: EncodeOptions) -> EncodeOptions
-    ensures define { result.define_components ≡ options.define_components }
-    ensures validate { result.validate ≡ true }
+    ensures { result ≡ record options { validate = true } }
 {
     EncodeOptions {
         define_components: options.define_components,
@@ -245,7 +244,7 @@ fn compose_document(
         (λ r. IsComposition (says (view_document document.now) «packages».now) r.0.types r.0.world) }
     ensures after { IfOk result (λ r. r.1 ≡ next + 3) }
     ensures refused { IfErr result
-        (IsUnencoded next options.define_components (says (view_document document.now) «packages».now)) }
+        (IsUnencoded next options (says (view_document document.now) «packages».now)) }
 {
     let numbers = numbers_from(next)?;
     let encoded = encode_document(document, alloc, packages, numbers, validated(options))?;
@@ -299,7 +298,7 @@ trait ComposeDocument: Sized + Drop {
         ensures composed { IfOk result (λ r. IsComposition (says (stated self.now) «packages».now) r.0.types r.0.world) }
         ensures after { IfOk result (λ r. r.1 ≡ next + 3) }
         ensures refused { IfErr result
-            (IsUnencoded next options.define_components (says (stated self.now) «packages».now)) };
+            (IsUnencoded next options (says (stated self.now) «packages».now)) };
 }
 
 impl<'s> ComposeDocument for Document<'s> {
@@ -338,7 +337,7 @@ fn compose_whole<D: ComposeDocument>(
     ensures accepted { OnOk result (Accepts options.define_components (D.stated document) «packages».now) }
     ensures composed { IfOk result (λ r. IsComposition (says (D.stated document) «packages».now) r.0.types r.0.world) }
     ensures after { IfOk result (λ r. r.1 ≡ next + 3) }
-    ensures refused { IfErr result (IsUnencoded next options.define_components (says (D.stated document) «packages».now)) }
+    ensures refused { IfErr result (IsUnencoded next options (says (D.stated document) «packages».now)) }
 {
     document.compose(alloc, packages, next, options)
 }
@@ -369,7 +368,7 @@ fn compose_source(
     ensures means { IfOk result (λ r. MeansSource options (handed_list «packages».now) source.now r.0.bytes.items) }
     ensures imports { IfOk result (λ r. ImportsSource options (handed_list «packages».now) source.now r.0.bytes.items) }
     ensures after { IfOk result (λ r. r.1 ≡ next + 3) }
-    ensures refused { IfErr result (IsUnmade next (handed_list «packages».now) source.now options.define_components) }
+    ensures refused { IfErr result (IsUnmade next (handed_list «packages».now) source.now options) }
 {
     let document: Document<'_> = ParseDocument::parse(alloc, source)?;
     compose_whole(document, alloc, packages, next, options)
@@ -389,7 +388,7 @@ fn compose_over(
     ensures means { IfOk result (λ r. MeansSource options (handed entries.now) source.now r.0.bytes.items) }
     ensures imports { IfOk result (λ r. ImportsSource options (handed entries.now) source.now r.0.bytes.items) }
     ensures after { IfOk result (λ r. r.1 ≡ next + 3) }
-    ensures refused { IfErr result (IsUnmade next (handed entries.now) source.now options.define_components) }
+    ensures refused { IfErr result (IsUnmade next (handed entries.now) source.now options) }
 {
     let packages = packages_of(alloc, entries)?;
     compose_source(source, alloc, &packages, next, options)
@@ -432,7 +431,7 @@ impl Workspace {
         ensures composed { IfOk result (ComposesSource self.old self.new source.now options.define_components) }
         ensures means { IfOk result (λ o. MeansSource options (handed self.old.packages) source.now o.bytes.items) }
         ensures imports { IfOk result (λ o. ImportsSource options (handed self.old.packages) source.now o.bytes.items) }
-        ensures refused { IfErr result (IsRefused self.old source.now options.define_components) }
+        ensures refused { IfErr result (IsRefused self.old source.now options) }
         ensures kept { OnErr result (self.new ≡ self.old) }
     {
         let define = options.define_components;

@@ -35,7 +35,7 @@ pub fn compose_stream<R: ByteSource, W: ByteSink>(
       written = W.contents writer.old;
       known = W.contents writer.new;
     })) }
-    ensures stopped { IfErr result (IsStopped workspace.old workspace.new options.define_components (record {
+    ensures stopped { IfErr result (IsStopped workspace.old workspace.new options (record {
       read = R.remaining reader.old;
       unread = R.remaining reader.new;
       written = W.contents writer.old;

@@ -1,4 +1,4 @@
-use Rattle.std.proofs.Common.{ℕ, List, Result, Ok, refl, sym, subst}
+use Rattle.std.proofs.Common.{ℕ, List, Result, Ok, Err, refl, sym, subst}
 use Rattle.std.specs.declared.alloc.Global.{Global}
 use Rattle.std.specs.declared.vec.Vec.{Vec}
 use Rattle.wac_types_base.specs.Collection.{IsAcyclic}
@@ -6,15 +6,16 @@ use Rattle.wac_types_base.proofs.Adding.{Grows-trans}
 use Rattle.wac_graph_asks.specs.declared.asks.Definition.{Definition}
 use Rattle.wac_graph_asks.specs.AskedUses.{CopiesStand}
 use Rattle.wac_graph_asks.proofs.TakingMore.{again_err}
-use Rattle.wac_graph_causes.specs.declared.errors.Unwritten.{Unwritten}
+use Rattle.wac_graph_encode.specs.declared.fault.BytesError.{BytesError}
+use Rattle.wac_graph_encode.specs.Faults.{bytes_refusal}
 use Rattle.wac_graph_causes.specs.Circling.{CirclesPass, TellsCircle}
 use Rattle.wac_graph_causes.specs.Refusals.{unwritten_refusal}
-use Rattle.wac_graph_encode.specs.Finished.{MeansAsked, RefusesPrepared}
+use Rattle.wac_graph_encode.specs.Finished.{MeansAsked, RefusesPrepared, UnfitAsked}
 use Rattle.wac_graph_encode.specs.Formed.{AreCopied, AreFormed}
 use Rattle.wac_graph_encode.proofs.Circling.{waits_not, waits_told}
 use Rattle.wac_graph_encode.proofs.Forming.{all_grown}
-use Rattle.wac_graph_encode.proofs.Preparing.{held_prepared, means_imported, means_nested, to_hand_out}
-use Rattle.wac_graph_encode.proofs.Refusing.{alike_refused, circle_refused, size_refused}
+use Rattle.wac_graph_encode.proofs.Preparing.{held_prepared, means_imported, means_nested, past_size, to_hand_out}
+use Rattle.wac_graph_encode.proofs.Refusing.{alike_refused, circle_refused, of_processor, of_size, size_refused}
 use Rattle.wac_graph_encode.proofs.encode.bytes_asked.Goals as goal
 
 pub check_circles-requires-clause-copies : goal.check_circles-requires-clause-copies
@@ -30,9 +31,9 @@ returns-clause-means c = λ prepared.
     let grows = Grows-trans old.types mid new.types c.in_ok-definitions.ensures.grows c.in_ok-check_circles.ensures.grows in
     let copied = subst (λ (xs : List Definition). AreCopied g.types old.types xs) (sym c.deref.ensures.value) prepared.copies in
     let formed = all_grown g.types mid new.types c.in_ok-check_circles.ensures.grows old.definitions.items made.items (subst (λ (xs : List Definition). AreFormed g.types mid xs made.items) c.deref.ensures.value (c.in_ok-definitions.ensures.forms g.types copied)) in
-    let bytes : Result (Vec ℕ Global) Unwritten = Ok c.in_ok-bytes.bytes in
+    let bytes : Result (Vec ℕ Global) BytesError = Ok c.in_ok-bytes.bytes in
     let means = subst (λ (xs : List Definition). MeansAsked g new c.args.outers.now xs c.args.options.now bytes) c.deref-3.ensures.value c.in_ok-bytes.ensures.means in
-    means_nested g old c.args.outers.now prepared c.see_sound.ensures (subst IsAcyclic c.types.ensures c.see_acyclic.ensures) c.args.options.now new made c.in_ok-bytes.bytes grows refl formed means c.in_ok-bytes.ensures.nests
+    means_nested g old c.args.outers.now prepared c.see_sound.ensures (subst IsAcyclic c.types.ensures c.see_acyclic.ensures) c.args.options.now new made grows refl formed c.in_ok-bytes.bytes means c.in_ok-bytes.ensures.nests
 
 pub returns-clause-imports : goal.returns-clause-imports
 returns-clause-imports c = λ prepared.
@@ -44,9 +45,9 @@ returns-clause-imports c = λ prepared.
     let grows = Grows-trans old.types mid new.types c.in_ok-definitions.ensures.grows c.in_ok-check_circles.ensures.grows in
     let copied = subst (λ (xs : List Definition). AreCopied g.types old.types xs) (sym c.deref.ensures.value) prepared.copies in
     let formed = all_grown g.types mid new.types c.in_ok-check_circles.ensures.grows old.definitions.items made.items (subst (λ (xs : List Definition). AreFormed g.types mid xs made.items) c.deref.ensures.value (c.in_ok-definitions.ensures.forms g.types copied)) in
-    let bytes : Result (Vec ℕ Global) Unwritten = Ok c.in_ok-bytes.bytes in
+    let bytes : Result (Vec ℕ Global) BytesError = Ok c.in_ok-bytes.bytes in
     let means = subst (λ (xs : List Definition). MeansAsked g new c.args.outers.now xs c.args.options.now bytes) c.deref-3.ensures.value c.in_ok-bytes.ensures.means in
-    means_imported g old c.args.outers.now prepared c.see_sound.ensures (subst IsAcyclic c.types.ensures c.see_acyclic.ensures) c.args.options.now new made c.in_ok-bytes.bytes grows refl formed means c.in_ok-bytes.ensures.nests
+    means_imported g old c.args.outers.now prepared c.see_sound.ensures (subst IsAcyclic c.types.ensures c.see_acyclic.ensures) c.args.options.now new made grows refl formed c.in_ok-bytes.bytes means c.in_ok-bytes.ensures.nests
 
 pub returns-clause-ready : goal.returns-clause-ready
 returns-clause-ready c = λ prepared.
@@ -97,12 +98,32 @@ returns-in_err-check_circles-clause-refused c =
     let told = subst (λ (xs : List Definition). TellsCircle options.define_components g mid o old.packages.entries xs fault) c.deref-2.ensures.value c.in_err-check_circles.ensures.cause in
     circle_refused options g fault none (waits_told g c.see_sound.ensures (subst IsAcyclic c.types.ensures c.see_acyclic.ensures) old o prepared options mid c.in_ok-definitions.ensures.grows made.items formed fault told))
 
+pub returns-in_err-check_processor-clause-refused : goal.returns-in_err-check_processor-clause-refused
+returns-in_err-check_processor-clause-refused c =
+    let g = c.args.graph.now in
+    let options = c.args.options.now in
+    let fault = c.in_err-check_processor.field-0.0 in
+    again_err c.from_residual-in_err-check_processor.result (RefusesPrepared g c.args.asked.now c.args.outers.now options) (bytes_refusal fault) c.from_residual-in_err-check_processor.ensures.1
+    (λ prepared none. size_refused options g fault (of_processor options g fault c.in_err-check_processor.ensures.refused))
+
 pub returns-in_err-bytes-clause-refused : goal.returns-in_err-bytes-clause-refused
 returns-in_err-bytes-clause-refused c =
     let g = c.args.graph.now in
+    let old = c.args.asked.now in
+    let o = c.args.outers.now in
+    let options = c.args.options.now in
     let fault = c.in_err-bytes.field-0.0 in
-    again_err c.from_residual-in_err-bytes.result (RefusesPrepared g c.args.asked.now c.args.outers.now c.args.options.now) (unwritten_refusal fault) c.from_residual-in_err-bytes.ensures.1
-    (λ prepared none. size_refused c.args.options.now g fault c.in_err-bytes.ensures.refused)
+    let mid = c.written_definitions.new.types in
+    let new = record old { types = c.check_circles.new.types } in
+    let made = c.in_ok-definitions.definitions in
+    let grows = Grows-trans old.types mid new.types c.in_ok-definitions.ensures.grows c.in_ok-check_circles.ensures.grows in
+    let unfit = subst (λ (xs : List Definition). UnfitAsked {A = Vec ℕ Global} g new o xs options (Err fault)) c.deref-3.ensures.value c.in_err-bytes.ensures.unfit in
+    again_err c.from_residual-in_err-bytes.result (RefusesPrepared g old o options) (bytes_refusal fault) c.from_residual-in_err-bytes.ensures.1
+    (λ prepared none.
+    let copied = subst (λ (xs : List Definition). AreCopied g.types old.types xs) (sym c.deref.ensures.value) prepared.copies in
+    let formed = all_grown g.types mid new.types c.in_ok-check_circles.ensures.grows old.definitions.items made.items (subst (λ (xs : List Definition). AreFormed g.types mid xs made.items) c.deref.ensures.value (c.in_ok-definitions.ensures.forms g.types copied)) in
+    size_refused options g fault (of_size options g fault c.in_err-bytes.ensures.large
+    (λ large at. past_size g old o prepared c.see_sound.ensures (subst IsAcyclic c.types.ensures c.see_acyclic.ensures) options new made grows refl formed c.in_ok-check_processor.ensures.fits (subst (λ f. UnfitAsked {A = Vec ℕ Global} g new o made.items options (Err f)) at unfit) large)))
 
 pub returns-in_err-check_names-clause-refused : goal.returns-in_err-check_names-clause-refused
 returns-in_err-check_names-clause-refused c =

@@ -8,5 +8,10 @@ returns-clause-means c = λ h.
     let outers = subst (λ (xs : List Called). IsOuters c.args.graph.now c.args.asked.now.types c.args.outers.now.world xs) (sym c.as_slice.ensures.value) h.0 in
     c.bytes_wired.ensures.means c.new-wired.ensures.graph c.new-wired.ensures.bare (record { outers = outers; worlds = h.1; definitions = h.2 })
 
+pub returns-clause-unfit : goal.returns-clause-unfit
+returns-clause-unfit c = λ fits h.
+    let outers = subst (λ (xs : List Called). IsOuters c.args.graph.now c.args.asked.now.types c.args.outers.now.world xs) (sym c.as_slice.ensures.value) h.0 in
+    c.bytes_wired.ensures.unfit c.new-wired.ensures.graph c.new-wired.ensures.bare fits (record { outers = outers; worlds = h.1; definitions = h.2 })
+
 pub returns-clause-nests : goal.returns-clause-nests
 returns-clause-nests c = c.bytes_wired.ensures.nests c.new-wired.ensures.bare

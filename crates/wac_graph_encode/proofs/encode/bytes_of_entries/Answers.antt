@@ -3,5 +3,5 @@ use Rattle.wac_graph_bytes.specs.Views.{view}
 use Rattle.wac_graph_encode.proofs.Finishing.{spelled_so}
 use Rattle.wac_graph_encode.proofs.encode.bytes_of_entries.Goals as goal
 
-pub returns : goal.returns
-returns c = spelled_so (map view c.args.entries.now) _ _ c.new-bytes.result.items c.push_component.new.out.items c.new-bytes.ensures.items c.in_ok-push_component.ensures
+pub returns-clause-spelled : goal.returns-clause-spelled
+returns-clause-spelled c = spelled_so (map view c.args.entries.now) _ _ c.new-bytes.result.items c.push_component.new.out.items c.new-bytes.ensures.items c.in_ok-push_component.ensures

@@ -2,14 +2,12 @@ use Rattle.std.proofs.Common.{ℕ, List, [], refl, sym, inl, subst}
 use Rattle.wac_graph_scopes.specs.declared.imports.SortIndex.{SortIndex}
 use Rattle.wac_graph_scopes.specs.Imports.{WritesOn}
 use Rattle.wac_graph_scopes.proofs.ImportLaws.{GoesOn-refl}
-use Rattle.wac_graph_encode.specs.declared.root.Defined.{Defined}
 use Rattle.wac_graph_encode.specs.Defining.{DefinesIn, HoldsDefinitions}
 use Rattle.wac_graph_encode.proofs.RootedDefinitions.{still_held, one_held}
 use Rattle.wac_graph_encode.proofs.root.add_definition.Goals as goal
-use Rattle.wac_graph_encode.proofs.root.add_definition.Goals.{in-Equal+in_ok-insert, in_default}
 
-pub returns : goal.returns
-returns c sound to w i imported holds =
+pub returns-in_ok-insert : goal.returns-in_ok-insert
+returns-in_ok-insert c sound to w i imported holds =
     let g = c.args.graph.now in
     let a = c.args.all in
     let x = c.args.definition.now in
@@ -18,12 +16,17 @@ returns c sound to w i imported holds =
     let d = c.in_ok-description.description in
     let base : WritesOn w a.types.now [] a.world from c.args.scope.now imported [] = record { goes = holds.written.goes; on = GoesOn-refl from } in
     let defines : DefinesIn g w a.types.now a.world from imported x new c.write_definition.new.known d = c.in_ok-description.ensures (to x (inl refl)) w from imported base holds.knows in
-    elim c.match-description.branch [
-      | in-Equal+in_ok-insert v ↦
-          let held = one_held g sound w a.types.now a.world i imported x (to x (inl refl)) c.args.scope.now new c.args.defined.now.known c.write_definition.new.known c.args.defined.now.nodes.entries holds d defines v.in-Equal.index v.in-Equal.is in
-          subst (λ (e : Defined). HoldsDefinitions g w a.types.now a.world i imported new e.known e.nodes.entries) (sym v.defined-is)
-          (subst (λ (es : List (ℕ × SortIndex)). HoldsDefinitions g w a.types.now a.world i imported new c.write_definition.new.known es) (sym v.in_ok-insert.ensures.entries) held)
-      | in_default v ↦
-          subst (λ (e : Defined). HoldsDefinitions g w a.types.now a.world i imported new e.known e.nodes.entries) (sym v.defined-is)
-          (still_held g sound w a.types.now a.world i imported x (to x (inl refl)) c.args.scope.now new c.args.defined.now.known c.write_definition.new.known c.args.defined.now.nodes.entries holds d defines)
-    ]
+    let held = one_held g sound w a.types.now a.world i imported x (to x (inl refl)) c.args.scope.now new c.args.defined.now.known c.write_definition.new.known c.args.defined.now.nodes.entries holds d defines c.in-Equal.index c.in-Equal.is in
+    subst (λ (es : List (ℕ × SortIndex)). HoldsDefinitions g w a.types.now a.world i imported new c.write_definition.new.known es) (sym c.in_ok-insert.ensures.entries) held
+
+pub returns-in_default : goal.returns-in_default
+returns-in_default c sound to w i imported holds =
+    let g = c.args.graph.now in
+    let a = c.args.all in
+    let x = c.args.definition.now in
+    let from = holds.written.goes.writing.inside in
+    let new = c.write_definition.new.scope in
+    let d = c.in_ok-description.description in
+    let base : WritesOn w a.types.now [] a.world from c.args.scope.now imported [] = record { goes = holds.written.goes; on = GoesOn-refl from } in
+    let defines : DefinesIn g w a.types.now a.world from imported x new c.write_definition.new.known d = c.in_ok-description.ensures (to x (inl refl)) w from imported base holds.knows in
+    still_held g sound w a.types.now a.world i imported x (to x (inl refl)) c.args.scope.now new c.args.defined.now.known c.write_definition.new.known c.args.defined.now.nodes.entries holds d defines

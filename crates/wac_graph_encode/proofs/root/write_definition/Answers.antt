@@ -14,7 +14,7 @@ returns-in-Some c to w i imported h knows =
     let a = c.args.all in
     let finite = subst IsAcyclic c.types.ensures c.see_acyclic.ensures in
     let x = c.args.definition.now in
-    let n = c.as_str-name.result.now in
+    let n = x.name in
     let new = c.write_type.new.scope in
     let from = h.goes.writing.inside in
     let base : WritesOn w a.types.now [] a.world from c.args.scope.now imported [] = record { goes = h.goes; on = GoesOn-refl from } in
@@ -22,8 +22,8 @@ returns-in-Some c to w i imported h knows =
     if_ok_both c.write_type.result (c.write_type.ensures.item n w [] from imported [] base) (c.write_type.ensures.own entry w [] from imported [] base)
     (λ d described own. copy_defines g c.see_sound.ensures finite a.types.now c.see_acyclic-2.ensures w a.world i imported x to c.in-Some.item c.in-Some.is c.args.scope.now new c.args.known.now h knows n d described own)
 
-pub returns-in-Ok : goal.returns-in-Ok
-returns-in-Ok c to w i imported h knows =
+pub returns-in-None : goal.returns-in-None
+returns-in-None c to w i imported h knows =
     let g = c.args.graph.now in
     let a = c.args.all in
     let finite = subst IsAcyclic c.types.ensures c.see_acyclic.ensures in
@@ -34,10 +34,6 @@ returns-in-Ok c to w i imported h knows =
     let own = own_entry g c.see_sound.ensures finite a.types.now c.see_acyclic-2.ensures w a.world i imported x to c.in-None.is in
     let scope = c.describe_apart.new.self in
     let after = c.describe_apart.new.other in
-    let d = c.in-Ok.description in
-    own_defines g c.see_sound.ensures finite a.types.now c.see_acyclic-2.ensures w a.world i imported x to c.in-None.is scope after d
-    (subst (λ (t : Collection). DescribesApart w a.types.now t [] a.world i (ItemKind.Ty x.ty) scope after imported [] d) same (c.in-Ok.ensures.describes a.world w a.types.now [] i imported [] h known))
-    (c.in-Ok.ensures.own own w a.types.now [] inside h.goes.writing.stands known)
-
-pub returns-in-Err : goal.returns-in-Err
-returns-in-Err c to w i imported h knows = tt
+    if_ok_both c.describe_apart.result (c.describe_apart.ensures.describes a.world w a.types.now [] i imported [] h known) (c.describe_apart.ensures.own own w a.types.now [] inside h.goes.writing.stands known)
+    (λ d described entry. own_defines g c.see_sound.ensures finite a.types.now c.see_acyclic-2.ensures w a.world i imported x to c.in-None.is scope after d
+    (subst (λ (t : Collection). DescribesApart w a.types.now t [] a.world i (ItemKind.Ty x.ty) scope after imported [] d) same described) entry)

@@ -18,7 +18,7 @@ returns-in_err-resolution-clause-late c =
     let f = c.in_err-resolution.field-0.0 in
     let told = subst (λ (d : Document). IsErrorOf (resolved (view_document d) ps) f) c.new.ensures c.in_err-resolution.ensures.outcome in
     let p = err_from_is_err_and c.from_residual-in_err-resolution.result c.from_residual-in_err-resolution.ensures.1 in
-    rw p.1 (late_resolving c.args.options.define_components (resolved (view_document c.args.document.now) ps) f p.0 told p.2)
+    rw p.1 (late_resolving c.args.options (resolved (view_document c.args.document.now) ps) f p.0 told p.2)
 
 pub returns-clause-late : goal.returns-clause-late
 returns-clause-late c =

@@ -19,7 +19,7 @@ returns-in_err-output-clause-stopped g c =
       whole = record { taken = c.in_ok-source.ensures.whole; bound = c.in_ok-source.ensures.bound };
       utf8 = subst (λ (t : List ℕ). IsUtf8 t) c.deref.ensures.value c.in-Ok.ensures.cases.1;
     } in
-    let refused = subst (λ (t : List ℕ). IsRefused c.args.workspace.now t c.args.options.define_components c.in_err-output.field-0.0) (c.in-Ok.ensures.cases.0 ∙ c.deref.ensures.value) c.in_err-output.ensures.refused in
+    let refused = subst (λ (t : List ℕ). IsRefused c.args.workspace.now t c.args.options c.in_err-output.field-0.0) (c.in-Ok.ensures.cases.0 ∙ c.deref.ensures.value) c.in_err-output.ensures.refused in
     rw (p.1, p.2) (c.in_err-output.ensures.kept, (c.in_ok-source.source.items, text, refused), Appends-none _)
 
 pub returns-clause-composed : goal.returns-clause-composed
@@ -44,6 +44,6 @@ returns-clause-stopped g c =
       utf8 = subst (λ (t : List ℕ). IsUtf8 t) c.deref.ensures.value c.in-Ok.ensures.cases.1;
     } in
     let composed = subst (λ (t : List ℕ). ComposesSource c.args.workspace.now c.compose.new.self t c.args.options.define_components c.in_ok-output.output) (c.in-Ok.ensures.cases.0 ∙ c.deref.ensures.value) c.in_ok-output.ensures.composed in
-    write_stopped _ _ _ _ c.in_ok-source.source.items c.in_ok-output.output c.write_component.result text composed
+    write_stopped _ _ c.args.options _ c.in_ok-source.source.items c.in_ok-output.output c.write_component.result text composed
     (λ (front : AppendsPrefix (g.W.Write.contents c.args.writer.now) (g.W.Write.contents c.write_component.new.writer) c.deref-2.result.now). subst (λ (bs : List ℕ). AppendsPrefix (g.W.Write.contents c.args.writer.now) (g.W.Write.contents c.write_component.new.writer) bs) c.deref-2.ensures.value front)
     c.write_component.ensures.only c.write_component.ensures.prefix

@@ -23,4 +23,4 @@ returns-in_ok-index-in-Tag-clause-written c sigs is es h =
 pub returns-in_err-index-in-Tag-clause-refused : goal.returns-in_err-index-in-Tag-clause-refused
 returns-in_err-index-in-Tag-clause-refused c =
     let p = err_from_is_err_and c.from_residual-in_err-index-in-Tag.result c.from_residual-in_err-index-in-Tag.ensures.1 in
-    rw (p.1, p.2) (tag_refused c.in-Tag.func c.args.item.now c.args.self.now.signatures c.in_err-index-in-Tag.field-0.0 c.in-Tag.is c.in_err-index-in-Tag.ensures.refused)
+    rw (p.1, p.2) (tag_refused c.in-Tag.func c.args.item.now c.in_err-index-in-Tag.field-0.0 c.in-Tag.is c.in_err-index-in-Tag.ensures.refused)

@@ -1,4 +1,4 @@
-use Rattle.std.proofs.Common.{◌≤◌, ◌+◌, [], length, subst, arith}
+use Rattle.std.proofs.Common.{◌≤◌, [], length, subst, arith}
 use Rattle.std.proofs.lemmas.List.{take_all}
 use Rattle.wac_graph_scopes.specs.CoreItems.{AddsCores}
 use Rattle.std.proofs.lemmas.Result.{err_from_is_err_and}
@@ -16,7 +16,6 @@ loop-at-preserved c =
     let x = c.entry.result.1.now in (
       exports_next c.args.self.now c.loop-at.self c.export.new.self es i (c.entry.result.0.now, x) c.entry.ensures c.loop-at.invariant.0 c.in_ok-export.ensures.written,
       spoken_next (values_of es) i x (value_place es i c.entry.result.0.now x c.entry.ensures) c.loop-at.invariant.1 c.in_ok-export.ensures.spoken,
-      omega (arith, c.loop-at.invariant.2, c.in_ok-export.ensures.count),
     )
 
 pub returns-clause-adds : goal.returns-clause-adds
@@ -30,18 +29,11 @@ returns-in_err-export-clause-refused c =
     let es = c.args.exports.now in
     let i = c.loop-at.at in
     let x = c.entry.result.1.now in
-    let within : i + 1 ≤ length (values_of es) = omega (arith, c.loop-at-test.true, c.len-at-end.ensures.len, length-map es (λ y. y.1)) in
     rw (p.1, p.2)
-    (one_refused (values_of es) x c.loop-at.self.signatures c.args.self.now.signatures i c.in_err-export.field-0.0 (value_place es i c.entry.result.0.now x c.entry.ensures) c.loop-at.invariant.2 within c.in_err-export.ensures.refused)
-
-pub returns-in_err-export-clause-count : goal.returns-in_err-export-clause-count
-returns-in_err-export-clause-count c = omega (arith, c.loop-at-test.true, c.len-at-end.ensures.len, c.loop-at.invariant.2, c.in_err-export.ensures.count)
+    (one_refused (values_of es) x i c.in_err-export.field-0.0 (value_place es i c.entry.result.0.now x c.entry.ensures) c.in_err-export.ensures.refused)
 
 pub returns-clause-spoken : goal.returns-clause-spoken
 returns-clause-spoken c =
     let es = c.args.exports.now in
     let end : length (values_of es) ≤ c.loop-at.at = omega (arith, c.loop-at-test.false, c.len-at-end.ensures.len, length-map es (λ y. y.1)) in
     subst (λ l. OneFails l → ⊥) (take_all c.loop-at.at (values_of es) end) c.loop-at.invariant.1
-
-pub returns-clause-count : goal.returns-clause-count
-returns-clause-count c = omega (arith, c.loop-at.invariant.2, c.loop-at.auto.at-end, c.len-at-end.ensures.len)

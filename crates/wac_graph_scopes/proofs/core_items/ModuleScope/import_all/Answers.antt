@@ -1,4 +1,4 @@
-use Rattle.std.proofs.Common.{◌≡◌, ◌≤◌, ◌<◌, [], Some, length, ◌+◌, slice_get, subst, arith, string_bytes}
+use Rattle.std.proofs.Common.{◌≡◌, ◌≤◌, ◌<◌, [], Some, length, slice_get, subst, arith, string_bytes}
 use Rattle.std.proofs.lemmas.List.{take_all}
 use Rattle.wac_types_base.proofs.PairNames.{pair-place}
 use Rattle.wac_graph_scopes.specs.CoreItems.{AddsCores}
@@ -21,7 +21,6 @@ loop-at-preserved c =
     let place : slice_get es i ≡ Some (name, x) = pair-place es c.names.result.now c.values.result.now i t x c.names.ensures c.values.ensures inside c.index-names-at.is c.index-values-at.is in (
       imports_next c.args.self.now c.loop-at.self c.import.new.self es i (name, x) place c.loop-at.invariant.0 c.in_ok-import.ensures.written,
       spoken_next (values_of es) i x (value_place es i name x place) c.loop-at.invariant.1 c.in_ok-import.ensures.spoken,
-      omega (arith, c.loop-at.invariant.2, c.in_ok-import.ensures.count),
     )
 
 pub returns-clause-adds : goal.returns-clause-adds
@@ -39,18 +38,11 @@ returns-in_err-import-clause-refused c =
     let name : Name × Name = (string_bytes t.0, string_bytes t.1) in
     let inside : i < length es = omega (arith, c.loop-at-test.true, c.len-at-end.ensures.len) in
     let place : slice_get es i ≡ Some (name, x) = pair-place es c.names.result.now c.values.result.now i t x c.names.ensures c.values.ensures inside c.index-names-at.is c.index-values-at.is in
-    let within : i + 1 ≤ length (values_of es) = omega (arith, inside, length-map es (λ y. y.1)) in
     rw (p.1, p.2)
-    (one_refused (values_of es) x c.loop-at.self.signatures c.args.self.now.signatures i c.in_err-import.field-0.0 (value_place es i name x place) c.loop-at.invariant.2 within c.in_err-import.ensures.refused)
-
-pub returns-in_err-import-clause-count : goal.returns-in_err-import-clause-count
-returns-in_err-import-clause-count c = omega (arith, c.loop-at-test.true, c.len-at-end.ensures.len, c.loop-at.invariant.2, c.in_err-import.ensures.count)
+    (one_refused (values_of es) x i c.in_err-import.field-0.0 (value_place es i name x place) c.in_err-import.ensures.refused)
 
 pub returns-clause-spoken : goal.returns-clause-spoken
 returns-clause-spoken c =
     let es = c.args.imports.now in
     let end : length (values_of es) ≤ c.loop-at.at = omega (arith, c.loop-at-test.false, c.len-at-end.ensures.len, length-map es (λ y. y.1)) in
     subst (λ l. OneFails l → ⊥) (take_all c.loop-at.at (values_of es) end) c.loop-at.invariant.1
-
-pub returns-clause-count : goal.returns-clause-count
-returns-clause-count c = omega (arith, c.loop-at.invariant.2, c.loop-at.auto.at-end, c.len-at-end.ensures.len)

@@ -14,13 +14,13 @@ pub returns-in_err-params-clause-refused : goal.returns-in_err-params-clause-ref
 returns-in_err-params-clause-refused c =
     let p = err_from_is_err_and c.from_residual.result c.from_residual.ensures.1 in
     let e = c.in_err-params.field-0.0 in
-    rw (p.1, p.2) (params_refused c.args.func.now c.args.self.now.signatures e (subst (λ l. TypesRefused l e) c.as_slice.ensures c.in_err-params.ensures.refused))
+    rw (p.1, p.2) (params_refused c.args.func.now e (subst (λ l. TypesRefused l e) c.as_slice.ensures c.in_err-params.ensures.refused))
 
 pub returns-in_err-results-clause-refused : goal.returns-in_err-results-clause-refused
 returns-in_err-results-clause-refused c =
     let p = err_from_is_err_and c.from_residual-in_err-results.result c.from_residual-in_err-results.ensures.1 in
     let e = c.in_err-results.field-0.0 in
-    rw (p.1, p.2) (results_refused c.args.func.now c.args.self.now.signatures e (subst (λ l. TypesRefused l e) c.as_slice-2.ensures c.in_err-results.ensures.refused))
+    rw (p.1, p.2) (results_refused c.args.func.now e (subst (λ l. TypesRefused l e) c.as_slice-2.ensures c.in_err-results.ensures.refused))
 
 pub returns-clause-spoken : goal.returns-clause-spoken
 returns-clause-spoken c =

@@ -26,7 +26,7 @@ returns-clause-refused c stands =
     let mid = c.describe_type-description.new.scope in
     let last : ItemScope = record mid { types = c.exchange-2.new.self } in
     let same = c.exchange-2.ensures.scope in
-    if_err_map c.describe_type-description.result (λ e h. type_refused_kept c.args.types.now c.args.ty mid last e (ap (λ (t : TypeScope). t.resources) same) (ap (λ (t : TypeScope). t.types) same) h)
+    if_err_map c.describe_type-description.result (λ e h. type_refused_kept c.args.types.now c.args.ty mid last e (ap (λ (t : TypeScope). t.resources) same) h)
     (c.describe_type-description.ensures.refused stands)
 
 pub returns-clause-own : goal.returns-clause-own

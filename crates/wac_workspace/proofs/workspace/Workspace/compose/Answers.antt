@@ -15,4 +15,4 @@ returns-in_err-register-clause-refused c =
     let output = subst (λ (w : Held). IsOutput w.next (handed w.packages) c.args.source.now c.args.options.define_components c.in_ok-output.output) c.self.view_is there in
     let here = subst (λ (es : List Entry). IsMeantBy (handed es) c.args.source.now c.in_ok-output.output.bytes.items) c.deref.ensures.value (c.in_ok-output.ensures.means c.if-define.true) in
     let means = subst (λ (w : Held). IsMeantBy (handed w.packages) c.args.source.now c.in_ok-output.output.bytes.items) c.self.view_is here in
-    rw (p.1, p.2) (unregistered c.args.self.now c.args.source.now c.args.options.define_components c.in_ok-output.output _ c.if-define.true output means c.in_err-register.ensures.fault)
+    rw (p.1, p.2) (unregistered c.args.self.now c.args.source.now c.args.options c.in_ok-output.output _ c.if-define.true output means c.in_err-register.ensures.fault)
