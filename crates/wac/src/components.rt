@@ -2,7 +2,7 @@
 
 ghost use Rattle.std.specs.Prelude.{◌≡◌, Some, None, IfOk, IfErr, OnOk, string_bytes};
 ghost use Rattle.wac_texts.specs.Files.{Has};
-ghost use Rattle.wac.specs.Adding.{IsBytesOf, AddsHanded, AddsComponent, AddsComponents, added_key};
+ghost use Rattle.wac.specs.Adding.{IsBytesOf, AddsComponent, AddsComponents, AddsDefined, AddsRead};
 ghost use Rattle.wac.specs.Loading.{IsUnread, IsNoText, IsTextOf, IsTextRefused};
 
 use crate::stop::{Stop, cannot_read, key_taken, not_parsed, not_resolved, plain, with_text};
@@ -103,7 +103,7 @@ fn add_with_graph(
     graph: &CompositionGraph,
     declares: Declares,
 ) -> Result<(), Stop>
-    ensures { OnOk result (AddsHanded (added_key added) added.bytes.items workspace.old.packages workspace.new.packages) }
+    ensures { OnOk result (AddsDefined graph.now declares added workspace.old.packages workspace.new.packages) }
 {
     let Added {
         name,
@@ -140,7 +140,8 @@ fn add_with_text<'s, D: ParseDocument<'s> + ResolveDocument + DeclareDocument>(
     workspace: &mut Workspace,
     added: Added,
 ) -> Result<(), Stop>
-    ensures { OnOk result (AddsHanded (added_key added) added.bytes.items workspace.old.packages workspace.new.packages) }
+    ensures { OnOk result (AddsRead D.view D.rule D.ResolveDocument.stated D.DeclareDocument.stated source.now added
+        workspace.old.packages workspace.new.packages) }
 {
     let document = match D::parse(alloc, source) {
         Ok(document) => document,

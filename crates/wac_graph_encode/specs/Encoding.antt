@@ -139,13 +139,17 @@ pub record IsComposed (define : Bool) (g : Graph) (bytes : List ℕ) : Type 0 wh
   pub nests : NestsPackages define g bytes
   pub means : MeansWiring define g bytes
 
+-- a number in one of the entries passes 32 bits
+abbrev pub HasUnfit : List Entry → Type 0
+HasUnfit entries = list_all entry_fits entries ≡ false
+
 -- The entries of the component do not fit: with the packages nested, or imported, they state the graph's wiring in all worlds
 -- that are true of the packages, and a count, an index, a length or a size in one of them passes 32 bits.
 pub record IsOversized (define : Bool) (g : Graph) : Type 0 where
   pub entries : List Entry
   pub nest : NestPackages define g entries
   pub state : (worlds : Worlds) → AreTrueOf define g worlds → StateGraph define g worlds entries
-  pub unfit : list_all entry_fits entries ≡ false
+  pub unfit : HasUnfit entries
 
 -- The world that is handed out states what the composition asks of the outside and exports, with order, identifiers and uses,
 -- and no world in it has uses of its own.

@@ -2,7 +2,7 @@
 use Rattle.std.specs.Prelude.{◌≡◌, ℕ, Bool, true, false, List, [], map, None, Result, IfOk, IfErr}
 use Rattle.std.specs.declared.alloc.Global.{Global}
 use Rattle.std.specs.declared.vec.Vec.{Vec}
-use Rattle.std.specs.List.{AllByRecursion, list_all}
+use Rattle.std.specs.List.{AllByRecursion}
 use Rattle.wac_types_base.specs.Entries.{Name, names_of, value_at}
 use Rattle.wac_types_base.specs.Collection.{IsAcyclic}
 use Rattle.wac_types_base.specs.Tree.{Tree}
@@ -12,7 +12,6 @@ use Rattle.wac_graph_bytes.specs.Sizes.{section_fits}
 use Rattle.wac_graph_bytes.specs.Spelling.{component_bytes}
 use Rattle.wac_graph_bytes.specs.Typing.{Worlds}
 use Rattle.wac_graph_bytes.specs.Meaning.{wiring_of}
-use Rattle.wac_graph_bytes.specs.Writing.{entry_fits}
 use Rattle.wac_graph_bytes.specs.Wirings.{Wiring, Same}
 use Rattle.wac_graph_core.specs.declared.ids.PackageId.{PackageId}
 use Rattle.wac_graph_core.specs.Graph.{Graph, IsGraph}
@@ -30,7 +29,7 @@ use Rattle.wac_graph_encode.specs.declared.instances.Wired.{Wired}
 use Rattle.wac_graph_encode.specs.declared.root.Writing.{Writing}
 use Rattle.wac_graph_encode.specs.Standing.{IsFinished}
 use Rattle.wac_graph_encode.specs.Defining.{AreToWrite}
-use Rattle.wac_graph_encode.specs.Encoding.{nested_in, HaveDependencyNames, MeansGraph, StateGraph, IsComposed}
+use Rattle.wac_graph_encode.specs.Encoding.{nested_in, HasUnfit, HaveDependencyNames, MeansGraph, StateGraph, IsComposed}
 use Rattle.wac_graph_encode.specs.Formed.{AreCopied}
 use Rattle.wac_graph_encode.specs.Refused.{FitsProcessor, HasNoneAlike, HasNoneFound, IsRefusedFor, waiting_cause}
 use Rattle.wac_graph_encode.specs.Worlds.{IsToHandOut}
@@ -93,7 +92,7 @@ pub record IsUnfit (define : Bool) (g : Graph) (ids : List PackageId) : Type 0 w
   pub entries : List Entry
   pub nested : nested_in entries ≡ nested_bytes define g ids
   pub state : (w : Worlds) → AreTold define g w ids → StateGraph define g w entries
-  pub unfit : list_all entry_fits entries ≡ false
+  pub unfit : HasUnfit entries
 
 -- So it is where it is refused for size, if what is said to have written the component fits.
 abbrev pub UnfitSo : {A : Type 0} → EncodeOptions → Graph → List PackageId → (P : Type 0) → Result A BytesError → Type 0

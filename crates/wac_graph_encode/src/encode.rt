@@ -2,9 +2,8 @@
 
 ghost use Rattle.std.specs.Prelude.{◌≡◌, [], None, IfOk, IfErr, OnOk, map, true, false};
 ghost use Rattle.wac_types_base.specs.Entries.{names_of};
-ghost use Rattle.std.specs.List.{list_all};
 ghost use Rattle.wac_graph_bytes.specs.Views.{all_names_view, view};
-ghost use Rattle.wac_graph_bytes.specs.Writing.{debug_if_fits, entry_fits};
+ghost use Rattle.wac_graph_bytes.specs.Writing.{debug_if_fits};
 ghost use Rattle.wac_graph_causes.specs.Sizes.{IsTooLarge};
 ghost use Rattle.wac_graph_core.specs.Graph.{Graph};
 ghost use Rattle.wac_graph_asks.specs.Asked.{IsAsked, KeepsAsked};
@@ -12,7 +11,7 @@ ghost use Rattle.wac_graph_asks.specs.AskedUses.{CopiesStand};
 ghost use Rattle.wac_graph_asks.specs.Outers.{AnswersOuters};
 ghost use Rattle.wac_graph_causes.specs.Acyclic.{IsNoCycle};
 ghost use Rattle.wac_graph_causes.specs.Circling.{PackagesStand};
-ghost use Rattle.wac_graph_encode.specs.Encoding.{HasTrueWorld};
+ghost use Rattle.wac_graph_encode.specs.Encoding.{HasTrueWorld, HasUnfit};
 ghost use Rattle.wac_graph_encode.specs.Worlds.{IsToHandOut};
 ghost use Rattle.wac_graph_encode.specs.Refused.{FitsProcessor, HasLargeProcessor, HasNoneAlike, HasNoneClashing, HasNoneFound, HasNoneUnwritten};
 ghost use Rattle.wac_graph_encode.specs.Refused.{IsErrorFor, IsFree, IsRefusedFor, waiting_cause};
@@ -74,7 +73,7 @@ fn bytes_of_entries(
     options: &EncodeOptions,
 ) -> Result<Vec<u8>, BytesError>
     ensures spelled { IfOk result (λ bytes. AreSpelled (map view entries.now) bytes.items) }
-    ensures unfit { FitsProcessor options.now → IfErr result (IfOfSize (list_all entry_fits (map view entries.now) ≡ false)) }
+    ensures unfit { FitsProcessor options.now → IfErr result (IfOfSize (HasUnfit (map view entries.now))) }
 {
     let names = names_that_fit(alloc, names)?;
     let mut bytes = Vec::new(alloc);

@@ -66,10 +66,6 @@ own_fits : producers_fit (codes "wac-parser", codes "0.11.0") ≡ true
 unfolding digits digits_by is_utf8 chars encode
 own_fits = refl
 
-none_renamed : {X Y : Type 0} (f : X → Y) (o : Option X) → option_map f o ≡ None → o ≡ None
-none_renamed f None e = refl
-none_renamed f (Some x) e = absurd (none-some _ (sym e))
-
 -- what a graph says of its size holds of the document
 past_size : (g : Graph) (options : EncodeOptions) (sound : IsGraph g) (acyclic : IsAcyclic g.types) (at : Places) (s : State) (b : IsBuilt g at s) → IsAscribed g at s → graph.IsPastSize options g → IsPastSize options s
 past_size g options sound acyclic at s b tied past = record {
@@ -88,10 +84,14 @@ past_size g options sound acyclic at s b tied past = record {
     of_large (inl large) = inl (tied.large large)
     of_large (inr (k, of)) = inr (package_key of.held, subst (λ (bs : List ℕ). 2 ^ 32 ≤ length bs) (sym (tied.handed k of.held of.is)) of.large)
 
+    none_either : (o : Option (cause.Cause ℕ)) → option_map (cause_renamed tied.asker) o ≡ None → o ≡ None
+    none_either None e = refl
+    none_either (Some x) e = absurd (none-some _ (sym e))
+
     alike_too : options.define_components ≡ false → name_cause false options.validate (composition s) ≡ None → name_cause options.define_components options.validate (composition_of g) ≡ None
     alike_too define none =
         (λ j. name_cause (define j) options.validate (composition_of g))
-        ∙ none_renamed (cause_renamed tied.asker) (name_cause false options.validate (composition_of g)) (sym (tied.names false options.validate) ∙ none)
+        ∙ none_either (name_cause false options.validate (composition_of g)) (sym (tied.names false options.validate) ∙ none)
 
 -- ---- the first cause
 

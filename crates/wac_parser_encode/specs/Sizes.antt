@@ -1,6 +1,5 @@
 -- When what a document says passes 32 bits as a component.
 use Rattle.std.specs.Prelude.{◌≡◌, ◌⊎◌, ◌≤◌, ◌^◌, ℕ, true, false, List, None, length}
-use Rattle.std.specs.List.{list_all}
 use Rattle.wac_types_base.specs.Graph.{Among}
 use Rattle.wac_types_base.specs.Tree.{tree}
 use Rattle.wac_types_names.specs.Keys.{Key}
@@ -8,11 +7,11 @@ use Rattle.wac_graph_bytes.specs.Entries.{Entry}
 use Rattle.wac_graph_bytes.specs.Meaning.{States}
 use Rattle.wac_graph_bytes.specs.Typing.{Worlds}
 use Rattle.wac_graph_bytes.specs.Wirings.{Wiring, Same}
-use Rattle.wac_graph_bytes.specs.Writing.{entry_fits}
 use Rattle.wac_composition.specs.Conflicts.{dependency_name, name_cause}
 use Rattle.wac_composition.specs.Large.{IsLarge}
 use Rattle.wac_composition.specs.Wired.{composed_wiring}
 use Rattle.wac_graph_encode.specs.declared.options.EncodeOptions.{EncodeOptions}
+use Rattle.wac_graph_encode.specs.Encoding.{HasUnfit}
 use Rattle.wac_parser_declare.specs.Scope.{package_under}
 use Rattle.wac_parser_ascribed.specs.Tied.{ascribed_wiring, handed_bytes}
 use Rattle.wac_parser_resolve.specs.Ascribed.{composition}
@@ -30,7 +29,7 @@ pub record StateIn (s : State) (worlds : Worlds) (entries : List Entry) : Type 0
 pub record IsOversized (s : State) : Type 0 where
   pub entries : List Entry
   pub state : (worlds : Worlds) → AreTrueOf s worlds → StateIn s worlds entries
-  pub unfit : list_all entry_fits entries ≡ false
+  pub unfit : HasUnfit entries
 
 -- In these worlds the entries state the wiring that is ascribed, and import each package under its dependency's name.
 pub record StateImporting (s : State) (worlds : Worlds) (entries : List Entry) : Type 0 where
@@ -43,7 +42,7 @@ pub record StateImporting (s : State) (worlds : Worlds) (entries : List Entry) :
 pub record IsOversizedImporting (s : State) : Type 0 where
   pub entries : List Entry
   pub state : (worlds : Worlds) → AreTrueAs imported_tag s worlds → StateImporting s worlds entries
-  pub unfit : list_all entry_fits entries ≡ false
+  pub unfit : HasUnfit entries
 
 -- a package that is handed in has more bytes than a size of 32 bits counts
 abbrev pub HasLargeHanded : State → Type 0

@@ -1,18 +1,16 @@
-use Rattle.std.proofs.Common.{◌≡◌, false, List, map, ap, sym, subst, ◌∙◌}
+use Rattle.std.proofs.Common.{List, map, ap, sym, subst, ◌∙◌}
 use Rattle.std.proofs.lemmas.Result.{IfOk-weaker}
 use Rattle.wac_types_base.specs.Entries.{names_of}
 use Rattle.wac_types_base.specs.Collection.{IsAcyclic}
 use Rattle.wac_graph_bytes.specs.declared.entry.Entry.{Entry}
-use Rattle.std.specs.List.{list_all}
 use Rattle.std.specs.Prelude.{IfErr}
 use Rattle.wac_graph_bytes.specs.Typing.{Worlds}
-use Rattle.wac_graph_bytes.specs.Writing.{entry_fits}
 use Rattle.wac_graph_bytes.specs.Views.{view}
 use Rattle.wac_graph_core.specs.Graph.{Graph}
 use Rattle.wac_graph_encode.specs.Standing.{IsFinished}
 use Rattle.wac_graph_encode.specs.Writing.{IsBegun}
 use Rattle.wac_graph_encode.specs.Beginning.{AreTold, IsBegunRoot}
-use Rattle.wac_graph_encode.specs.Encoding.{nested_in, StateGraph}
+use Rattle.wac_graph_encode.specs.Encoding.{nested_in, HasUnfit, StateGraph}
 use Rattle.wac_graph_encode.specs.Finished.{AreSpelled, IfOfSize, NestsBytes}
 use Rattle.wac_graph_encode.specs.Importing.{with_packages}
 use Rattle.wac_graph_encode.proofs.Nested.{spelled_nests}
@@ -75,7 +73,7 @@ returns-clause-unfit c = λ same bare fits to each can.
     let beside = read_beside g sound w types ps to.worlds each begun.imports begun.once begun.asked es define can done in
     state_graph define g sound asks w all es once done beside
     ) in
-    let unfit = subst (λ (xs : List Entry). IfErr c.bytes_of_entries.result (IfOfSize (list_all entry_fits (map view xs) ≡ false))) c.deref.ensures.value (c.bytes_of_entries.ensures.unfit fits) in
+    let unfit = subst (λ (xs : List Entry). IfErr c.bytes_of_entries.result (IfOfSize (HasUnfit (map view xs)))) c.deref.ensures.value (c.bytes_of_entries.ensures.unfit fits) in
     if_err_map c.bytes_of_entries.result
     (λ f. if_of_size f (λ none. record { entries = map view es; nested = c.in_ok-names.ensures.nests ∙ c.in_ok-write_root.ensures.nests bare; state = state; unfit = none })) unfit
 

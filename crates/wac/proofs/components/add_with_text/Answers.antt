@@ -1,0 +1,29 @@
+use Rattle.std.proofs.Common.{[], Option, ap, subst, ◌∙◌}
+use Rattle.std.proofs.lemmas.Result.{on_ok_weaker}
+use Rattle.wac_types_base.specs.Stated.{Stated}
+use Rattle.wac_parser_refusals.specs.Outcomes.{IsHeld}
+use Rattle.wac_parser_resolve.specs.Ascribing.{State}
+use Rattle.wac_parser_resolve.specs.InDocuments.{HoldsAll}
+use Rattle.wac_parser_resolve.specs.Knowing.{handed_entries}
+use Rattle.wac_parser_resolve.specs.Meeting.{resolved}
+use Rattle.wac_parser_resolve.specs.Resolved.{graph_of, places_of, target_of}
+use Rattle.wac_workspace.proofs.Resolved.{graph_held}
+use Rattle.wac_texts.specs.Declarations.{declared_in}
+use Rattle.wac.specs.Adding.{AddsDefined}
+use Rattle.wac.proofs.components.add_with_text.Goals as goal
+
+pub returns-in-Ok-resolve : goal.returns-in-Ok-resolve
+returns-in-Ok-resolve g c =
+    let t = c.in-Ok.document in
+    let d = g.D.ResolveDocument.stated t in
+    let r = c.in-Ok-resolve.resolution in
+    let held = subst (λ ps. IsHeld (λ (s : State × Option Stated) b. HoldsAll s (graph_of b) (places_of b) (target_of b)) (resolved d ps) r) (ap handed_entries c.new-none.ensures.empty) c.in-Ok-resolve.ensures.outcome in
+    let declares = c.declares-declares.ensures ∙ ap (declared_in (g.D.DeclareDocument.stated t)) c.as_str.ensures.value in
+    on_ok_weaker c.add_with_graph.result
+    (λ adds. record {
+      tree = t;
+      read = c.in-Ok.ensures;
+      graph = c.graph.result.now;
+      holds = graph_held graph_of places_of target_of (resolved d []) r c.graph.result.now c.graph.ensures held;
+      adds = subst (λ x. AddsDefined c.graph.result.now x c.args.added c.args.workspace.now.packages c.add_with_graph.new.workspace.packages) declares adds;
+    }) c.add_with_graph.ensures
