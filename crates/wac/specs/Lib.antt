@@ -4,6 +4,7 @@ pub use Rattle.wac_texts.specs.Worlds
 pub use Rattle.wac_texts.specs.Plugs
 pub mod Adding
 pub mod Loading
+pub mod Refusing
 pub mod Running
 pub mod Telling
 pub mod Words

@@ -25,12 +25,16 @@ abbrev pub IsTextOf : Option Stored → TextData → List ℕ → Type 0
 IsTextOf files (TextData.Text given) text = text ≡ string_bytes given
 IsTextOf files (TextData.File path) text = Has files (string_bytes path) (Some text)
 
--- the path has no file, or its file's bytes are no text
+-- the path's file has bytes that are no text
 pub record HasNoText (files : Option Stored) (path : Name) : Type 0 where
   pub bytes : List ℕ
   pub has : Has files path (Some bytes)
   pub no_text : IsUtf8 bytes → ⊥
 
+-- a text that is given is there; that of a file is not, where the path has none or its bytes are no text
+abbrev pub HasNoTextOf : Option Stored → TextData → Type 0
+HasNoTextOf files (TextData.Text given) = ⊥
+HasNoTextOf files (TextData.File path) = Has files (string_bytes path) None ⊎ HasNoText files (string_bytes path)
+
 abbrev pub IsTextRefused : Option Stored → TextData → Stop → Type 0
-IsTextRefused files (TextData.Text given) = StopsFor ⊥
-IsTextRefused files (TextData.File path) = StopsFor (Has files (string_bytes path) None ⊎ HasNoText files (string_bytes path))
+IsTextRefused files «data» = StopsFor (HasNoTextOf files «data»)

@@ -1,8 +1,13 @@
 //! What the program can be asked to do.
 
-ghost use Rattle.std.specs.Prelude.{All, IfOk, OnOk, string_bytes};
+ghost use Rattle.std.specs.Prelude.{All, None, IfOk, IfErr, OnOk, string_bytes};
 ghost use Rattle.std.specs.List.{AllZip};
+ghost use Rattle.wac_manifest.specs.Views.{key_view};
+ghost use Rattle.wac_parser_grammar.specs.Documents.{document};
+ghost use Rattle.wac_workspace.specs.Getting.{Gets};
 ghost use Rattle.wac_texts.specs.Worlds.{HasWorld};
+ghost use Rattle.wac.specs.Loading.{StopsFor};
+ghost use Rattle.wac.specs.Refusing.{ComposesNot, EndsFor, IsNotFound, IsNotRead};
 ghost use Rattle.wac.specs.Running.{ComposesManifest, FormatsTo, IsFound, IsPrintOf, PlugsFound, PlugsManifest, outside};
 
 use crate::components::add_components;
@@ -25,8 +30,9 @@ pub(crate) fn compose<F: Files, W: ByteSink>(
     files: &mut F,
     out: &mut W,
 ) -> Result<(), Stop>
-    ensures { OnOk result (ComposesManifest text.now
+    ensures composes { OnOk result (ComposesManifest text.now
         (outside (F.stored files.old) (W.contents out.old)) (outside (F.stored files.new) (W.contents out.new))) }
+    ensures refused { IfErr result (EndsFor (ComposesNot text.now (outside (F.stored files.old) (W.contents out.old)))) }
 {
     let manifest = match ComposeManifest::read(alloc, text) {
         Ok(manifest) => manifest,
@@ -42,6 +48,7 @@ pub(crate) fn compose<F: Files, W: ByteSink>(
 fn find<'a>(alloc: Global, workspace: &'a Workspace, key: &Key) -> Result<PackageRef<'a>, Stop>
     ensures world { IfOk result HasWorld }
     ensures found { IfOk result (IsFound workspace.now.packages key.now) }
+    ensures refused { IfErr result (StopsFor (Gets workspace.now.packages (key_view key.now) None)) }
 {
     let name = key.name.as_str();
     let version = key.version.as_ref();
@@ -62,6 +69,7 @@ fn find_all<'a>(
 ) -> Result<Vec<PackageRef<'a>>, Stop>
     ensures worlds { IfOk result (λ found. All HasWorld found.items) }
     ensures found { IfOk result (λ found. AllZip (IsFound workspace.now.packages) keys.now found.items) }
+    ensures refused { IfErr result (StopsFor (IsNotFound workspace.now.packages keys.now)) }
 {
     let mut found = Vec::new(alloc);
     for key in keys {
@@ -118,7 +126,8 @@ fn printed<'s, D: ParseDocument<'s> + PrintDocument>(
     source: &'s str,
     alloc: Global,
 ) -> Result<Vec<u8>, Stop>
-    ensures { IfOk result (λ text. IsPrintOf D.view D.rule D.printed source.now text.items) }
+    ensures print { IfOk result (λ text. IsPrintOf D.view D.rule D.printed source.now text.items) }
+    ensures refused { IfErr result (StopsFor (IsNotRead D.rule source.now)) }
 {
     match D::parse(alloc, source) {
         Ok(document) => document.print(alloc, source),
@@ -128,7 +137,8 @@ fn printed<'s, D: ParseDocument<'s> + PrintDocument>(
 
 /// Prints a document.
 pub(crate) fn format<W: ByteSink>(alloc: Global, source: &str, out: &mut W) -> Result<(), Stop>
-    ensures { OnOk result (FormatsTo source.now (W.contents out.old) (W.contents out.new)) }
+    ensures formats { OnOk result (FormatsTo source.now (W.contents out.old) (W.contents out.new)) }
+    ensures refused { IfErr result (EndsFor (IsNotRead document source.now)) }
 {
     let text = printed::<Document<'_>>(source, alloc)?;
     match write_bytes(out, &text) {

@@ -1,9 +1,13 @@
 //! The components of a manifest.
 
-ghost use Rattle.std.specs.Prelude.{◌≡◌, Some, None, IfOk, IfErr, OnOk, string_bytes};
+ghost use Rattle.std.specs.Prelude.{◌≡◌, ◌≢◌, ◌⊎◌, Some, None, IfOk, IfErr, OnOk, string_bytes};
+ghost use Rattle.wac_parser_refusals.specs.declared.error.Error.{Error as Unresolved};
 ghost use Rattle.wac_texts.specs.Files.{Has};
-ghost use Rattle.wac.specs.Adding.{IsBytesOf, AddsComponent, AddsComponents, AddsDefined, AddsRead};
-ghost use Rattle.wac.specs.Loading.{IsUnread, IsNoText, IsTextOf, IsTextRefused};
+ghost use Rattle.wac.specs.Adding.{IsBytesOf, AddsComponent, AddsComponents, AddsDefined, AddsRead, added_key};
+ghost use Rattle.wac.specs.Loading.{IsUnread, IsNoText, IsTextOf, IsTextRefused, StopsFor};
+ghost use Rattle.wac.specs.Refusing.{GivesNoWorld, HasNoBytesOf, IsNotAdded, IsTaken, ReadsNone, StopsAdding};
+ghost use Rattle.wac_texts.specs.declared.declared.DeclaredWorldError.{DeclaredWorldError as Lack};
+ghost use Rattle.wac_workspace.specs.declared.errors.AddPackageError.{AddPackageError as Taken};
 
 use crate::stop::{Stop, cannot_read, key_taken, not_parsed, not_resolved, plain, with_text};
 use std::alloc::Global;
@@ -44,7 +48,8 @@ pub fn text_of(alloc: Global, path: &str, bytes: &[u8]) -> Result<String, Stop>
 
 /// The bytes that a manifest gives.
 fn bytes_of<F: Files>(alloc: Global, files: &F, data: BytesData) -> Result<Vec<u8>, Stop>
-    ensures { IfOk result (λ bytes. IsBytesOf (F.stored files.now) «data» bytes.items) }
+    ensures bytes { IfOk result (λ bytes. IsBytesOf (F.stored files.now) «data» bytes.items) }
+    ensures refused { IfErr result (StopsFor (HasNoBytesOf (F.stored files.now) «data»)) }
 {
     match data {
         BytesData::Bytes(bytes) => Ok(bytes),
@@ -67,7 +72,9 @@ pub fn load_text<F: Files>(alloc: Global, files: &F, data: TextData) -> Result<S
 }
 
 /// What is told of a world that a document does not declare.
-fn not_selected(alloc: Global, name: &str, fault: DeclaredWorldError) -> Stop {
+fn not_selected(alloc: Global, name: &str, fault: DeclaredWorldError) -> Stop
+    ensures { StopsFor (fault ≢ Lack.Memory) result }
+{
     match fault {
         DeclaredWorldError::Memory => Stop::Memory,
         DeclaredWorldError::NotDeclared => {
@@ -78,7 +85,9 @@ fn not_selected(alloc: Global, name: &str, fault: DeclaredWorldError) -> Stop {
 }
 
 /// What is told of a component that is not added.
-fn not_added(alloc: Global, key: BorrowedPackageKey<'_>, fault: AddPackageError) -> Stop {
+fn not_added(alloc: Global, key: BorrowedPackageKey<'_>, fault: AddPackageError) -> Stop
+    ensures { StopsFor (fault ≢ Taken.Memory) result }
+{
     match fault {
         AddPackageError::Memory => Stop::Memory,
         AddPackageError::KeyTaken => key_taken(alloc, &key),
@@ -103,7 +112,9 @@ fn add_with_graph(
     graph: &CompositionGraph,
     declares: Declares,
 ) -> Result<(), Stop>
-    ensures { OnOk result (AddsDefined graph.now declares added workspace.old.packages workspace.new.packages) }
+    ensures added { OnOk result (AddsDefined graph.now declares added workspace.old.packages workspace.new.packages) }
+    ensures refused { IfErr result (StopsFor (GivesNoWorld graph.now declares (string_bytes added.select)
+        ⊎ IsTaken workspace.old (added_key added) added.bytes.items)) }
 {
     let Added {
         name,
@@ -127,7 +138,9 @@ fn add_with_graph(
 }
 
 /// Why a document was not resolved. It is dropped by a call, so that no proof takes its type apart.
-fn unresolved(alloc: Global, fault: ResolutionError) -> Stop {
+fn unresolved(alloc: Global, fault: ResolutionError) -> Stop
+    ensures { StopsFor (fault ≢ Unresolved.Memory) result }
+{
     let stop = not_resolved(alloc, &fault);
     drop(fault);
     stop
@@ -140,8 +153,11 @@ fn add_with_text<'s, D: ParseDocument<'s> + ResolveDocument + DeclareDocument>(
     workspace: &mut Workspace,
     added: Added,
 ) -> Result<(), Stop>
-    ensures { OnOk result (AddsRead D.view D.rule D.ResolveDocument.stated D.DeclareDocument.stated source.now added
+    ensures added { OnOk result (AddsRead D.view D.rule D.ResolveDocument.stated D.DeclareDocument.stated source.now added
         workspace.old.packages workspace.new.packages) }
+    ensures refused { IfErr result (StopsFor
+        (ReadsNone D.view D.rule D.ResolveDocument.stated D.DeclareDocument.stated source.now (string_bytes added.select)
+        ⊎ IsTaken workspace.old (added_key added) added.bytes.items)) }
 {
     let document = match D::parse(alloc, source) {
         Ok(document) => document,
@@ -162,7 +178,8 @@ fn add_component<F: Files>(
     workspace: &mut Workspace,
     component: Component,
 ) -> Result<(), Stop>
-    ensures { OnOk result (AddsComponent (F.stored files.now) component workspace.old.packages workspace.new.packages) }
+    ensures added { OnOk result (AddsComponent (F.stored files.now) component workspace.old.packages workspace.new.packages) }
+    ensures refused { IfErr result (StopsFor (IsNotAdded (F.stored files.now) component workspace.old)) }
 {
     let bytes = bytes_of(alloc, files, component.bytes)?;
     let source = load_text(alloc, files, component.world)?;
@@ -182,7 +199,9 @@ pub fn add_components<F: Files>(
     workspace: &mut Workspace,
     components: Vec<Component>,
 ) -> Result<(), Stop>
-    ensures { OnOk result (AddsComponents (F.stored files.now) components.items workspace.old.packages workspace.new.packages) }
+    ensures added { OnOk result
+        (AddsComponents (F.stored files.now) components.items workspace.old.packages workspace.new.packages) }
+    ensures refused { IfErr result (StopsFor (StopsAdding (F.stored files.now) components.items workspace.old)) }
 {
     for component in components {
         add_component(alloc, files, workspace, component)?;

@@ -1,7 +1,9 @@
 //! What a run asks of documents.
 
-ghost use Rattle.std.specs.Prelude.{◌≡◌, ℕ, List, IfOk};
+ghost use Rattle.std.specs.Prelude.{◌≡◌, ℕ, List, IfOk, IfErr};
+ghost use Rattle.wac.specs.declared.stop.Stop.{Stop};
 ghost use Rattle.wac_parser_tree.specs.Views.{view_document};
+ghost use Rattle.wac.specs.Loading.{StopsFor};
 ghost use Rattle.wac.specs.Running.{printed_over};
 
 use crate::stop::{Stop, key_taken};
@@ -16,7 +18,8 @@ use wac_types_names::BorrowedPackageKey;
 /// Documents whose directive names a package.
 pub(crate) trait NameDocument: Sized {
     /// What is told where a package with the directive's key is there already.
-    fn key_taken(&self, alloc: Global) -> Stop;
+    fn key_taken(&self, alloc: Global) -> Stop
+        ensures { StopsFor (Unit {0}) result };
 }
 
 impl<'s> NameDocument for Document<'s> {
@@ -34,12 +37,14 @@ pub(crate) trait PrintDocument: Sized {
 
     /// The printed text of the document over its source.
     fn print(&self, alloc: Global, source: &str) -> Result<Vec<u8>, Stop>
-        ensures { IfOk result (λ text. text.items ≡ printed self.now source.now) };
+        ensures text { IfOk result (λ text. text.items ≡ printed self.now source.now) }
+        ensures refused { IfErr result (λ stop. stop ≡ Stop.Memory) };
 }
 
 /// The printed text of a document over its source.
 fn print_document(document: &Document<'_>, alloc: Global, source: &str) -> Result<Vec<u8>, Stop>
-    ensures { IfOk result (λ text. text.items ≡ printed_over (view_document document.now) source.now) }
+    ensures text { IfOk result (λ text. text.items ≡ printed_over (view_document document.now) source.now) }
+    ensures refused { IfErr result (λ stop. stop ≡ Stop.Memory) }
 {
     let mut printer = DocumentPrinter::new(Vec::new(alloc), source, None);
     match printer.document(document) {

@@ -1,8 +1,12 @@
 //! Sources that are composed, and the lines of their outputs.
 
-ghost use Rattle.std.specs.Prelude.{◌≡◌, Some, None, IfOk, OnOk, OnErr, option_map, string_bytes};
+ghost use Rattle.std.specs.Prelude.{◌≡◌, ◌≢◌, Some, None, IfOk, IfErr, OnOk, OnErr, option_map, string_bytes};
+ghost use Rattle.wac_workspace.specs.declared.errors.ComposeError.{ComposeError as Fault};
 ghost use Rattle.std.specs.Io.KnownBytes.{Appends};
-ghost use Rattle.wac_streams.specs.Calls.{FailedOnce};
+ghost use Rattle.wac_streams.specs.Calls.{AppendsPrefix, FailedOnce};
+ghost use Rattle.wac.specs.declared.stop.Stop.{Stop as Halt};
+ghost use Rattle.wac.specs.Loading.{StopsFor};
+ghost use Rattle.wac.specs.Refusing.{EndsFor, IsUncomposed, PutsNot, StopsComposing};
 ghost use Rattle.wac.specs.Running.{Composes, Keeps, PutsSources, PutsWanted, head_of, line_of, outside};
 
 use crate::components::load_text;
@@ -19,7 +23,9 @@ use wac_workspace::{ByteSink, ComposeError, EncodeOptions, Output, Workspace, wr
 /// Writes a text.
 pub(crate) fn put<W: ByteSink>(out: &mut W, text: &str) -> Result<(), Stop>
     ensures whole { OnOk result (Appends (W.contents out.old) (W.contents out.new) text.now) }
+    ensures front { OnErr result (AppendsPrefix (W.contents out.old) (W.contents out.new) text.now) }
     ensures failed { OnErr result (FailedOnce (W.calls out.old) (W.calls out.new)) }
+    ensures refused { IfErr result (λ stop. stop ≡ Halt.Unwritten) }
 {
     match write_bytes(out, text.as_bytes()) {
         Ok(()) => Ok(()),
@@ -41,7 +47,8 @@ fn head_of(alloc: Global, output: &Output) -> Result<String, AllocError>
 
 /// Writes the line of an output that no file has, its bytes in hexadecimal.
 fn put_line<W: ByteSink>(alloc: Global, out: &mut W, output: &Output) -> Result<(), Stop>
-    ensures { OnOk result (Appends (W.contents out.old) (W.contents out.new) (line_of None output.now)) }
+    ensures line { OnOk result (Appends (W.contents out.old) (W.contents out.new) (line_of None output.now)) }
+    ensures refused { IfErr result (EndsFor ⊥) }
 {
     let head = head_of(alloc, output)?;
     let digits = hex::encode(alloc, output.bytes.as_slice())?;
@@ -71,7 +78,9 @@ fn put_file<F: Files, W: ByteSink>(
 }
 
 /// What is told of a source whose key is there already.
-fn taken_by<'s, D: ParseDocument<'s> + NameDocument>(source: &'s str, alloc: Global) -> Stop {
+fn taken_by<'s, D: ParseDocument<'s> + NameDocument>(source: &'s str, alloc: Global) -> Stop
+    ensures { StopsFor (Unit {0}) result }
+{
     match D::parse(alloc, source) {
         Ok(document) => document.key_taken(alloc),
         Err(fault) => not_parsed(alloc, &fault),
@@ -79,7 +88,9 @@ fn taken_by<'s, D: ParseDocument<'s> + NameDocument>(source: &'s str, alloc: Glo
 }
 
 /// Why a text was not composed.
-fn refused(source: &str, alloc: Global, fault: ComposeError) -> Stop {
+fn refused(source: &str, alloc: Global, fault: ComposeError) -> Stop
+    ensures { StopsFor (fault ≢ Fault.Memory) result }
+{
     let stop = match &fault {
         ComposeError::KeyTaken => taken_by::<Document<'_>>(source, alloc),
         fault => not_composed(alloc, fault),
@@ -95,7 +106,8 @@ fn composed(
     workspace: &mut Workspace,
     define: bool,
 ) -> Result<Output, Stop>
-    ensures { IfOk result (Composes define source.now workspace.old workspace.new) }
+    ensures composed { IfOk result (Composes define source.now workspace.old workspace.new) }
+    ensures refused { IfErr result (StopsFor (IsUncomposed define source.now workspace.old)) }
 {
     let options = EncodeOptions {
         define_components: define,
@@ -124,8 +136,10 @@ pub(crate) fn put_composed<F: Files, W: ByteSink>(
     out: &mut W,
     wanted: Wanted<'_>,
 ) -> Result<(), Stop>
-    ensures { OnOk result (PutsWanted wanted.entry source.now workspace.old workspace.new
+    ensures puts { OnOk result (PutsWanted wanted.entry source.now workspace.old workspace.new
         (outside (F.stored files.old) (W.contents out.old)) (outside (F.stored files.new) (W.contents out.new))) }
+    ensures refused { IfErr result
+        (EndsFor (PutsNot wanted.entry source.now workspace.old)) }
 {
     let output = composed(source, alloc, workspace, wanted.define)?;
     match wanted.path {
@@ -153,8 +167,10 @@ pub(crate) fn put_sources<F: Files, W: ByteSink>(
     sources: Vec<Source>,
     define: bool,
 ) -> Result<(), Stop>
-    ensures { OnOk result (PutsSources define sources.items workspace.old workspace.new
+    ensures puts { OnOk result (PutsSources define sources.items workspace.old workspace.new
         (outside (F.stored files.old) (W.contents out.old)) (outside (F.stored files.new) (W.contents out.new))) }
+    ensures refused { IfErr result (EndsFor
+        (StopsComposing define sources.items workspace.old (outside (F.stored files.old) (W.contents out.old)))) }
 {
     for source in sources {
         let text = load_text(alloc, files, source.source)?;

@@ -1,9 +1,12 @@
 //! Why a run stops.
 
-ghost use Rattle.std.specs.Prelude.{◌≡◌};
+ghost use Rattle.std.specs.Prelude.{◌≡◌, ◌≢◌};
 ghost use Rattle.wac_manifest.specs.declared.error.ManifestError.{ManifestError};
+ghost use Rattle.wac_parser_grammar.specs.declared.error.Error.{Error as Parsing};
+ghost use Rattle.wac_parser_refusals.specs.declared.error.Error.{Error as Resolving};
 ghost use Rattle.wac_parser_refusals.specs.Causes.{span_of};
 ghost use Rattle.wac_parser_refusals.specs.Views.{cause_of};
+ghost use Rattle.wac_workspace.specs.declared.errors.ComposeError.{ComposeError as Composing};
 ghost use Rattle.wac.specs.Loading.{StopsFor};
 ghost use Rattle.wac.specs.Telling.{place_in_source, TellsAt, TellsOf};
 ghost use Rattle.wac.specs.declared.stop.Stop.{Stop};
@@ -57,7 +60,8 @@ pub(crate) fn with_text(text: Result<String, AllocError>) -> Stop
 
 /// A refusal with the text of a fault, and its place.
 fn of_fault<E: Display>(alloc: Global, fault: &E, span: Option<SourceSpan>) -> Stop
-    ensures { TellsAt span result }
+    ensures place { TellsAt span result }
+    ensures told { StopsFor (Unit {0}) result }
 {
     match fault.to_string(alloc) {
         Ok(text) => Stop::Refused { text, span },
@@ -73,7 +77,9 @@ pub(crate) fn cannot_read(alloc: Global, path: &str) -> Stop
 }
 
 /// A file that cannot be written.
-pub(crate) fn cannot_write(alloc: Global, path: &str) -> Stop {
+pub(crate) fn cannot_write(alloc: Global, path: &str) -> Stop
+    ensures { StopsFor (Unit {0}) result }
+{
     with_text(format!(in alloc; "cannot write {path}"))
 }
 
@@ -105,7 +111,8 @@ fn parse_span(fault: &ParseError) -> Option<SourceSpan>
 
 /// A fault of parsing.
 pub(crate) fn not_parsed(alloc: Global, fault: &ParseError) -> Stop
-    ensures { TellsAt (place_in_source fault.now) result }
+    ensures place { TellsAt (place_in_source fault.now) result }
+    ensures cause { StopsFor (fault.now ≢ Parsing.Memory) result }
 {
     match fault {
         ParseError::Memory => Stop::Memory,
@@ -115,7 +122,8 @@ pub(crate) fn not_parsed(alloc: Global, fault: &ParseError) -> Stop
 
 /// A fault of resolving.
 pub(crate) fn not_resolved(alloc: Global, fault: &ResolutionError) -> Stop
-    ensures { TellsAt (span_of (cause_of fault.now)) result }
+    ensures place { TellsAt (span_of (cause_of fault.now)) result }
+    ensures cause { StopsFor (fault.now ≢ Resolving.Memory) result }
 {
     match fault {
         ResolutionError::Memory => Stop::Memory,
@@ -124,13 +132,16 @@ pub(crate) fn not_resolved(alloc: Global, fault: &ResolutionError) -> Stop
 }
 
 /// A package whose key is there already.
-pub(crate) fn key_taken<K: Display>(alloc: Global, key: &K) -> Stop {
+pub(crate) fn key_taken<K: Display>(alloc: Global, key: &K) -> Stop
+    ensures { StopsFor (Unit {0}) result }
+{
     with_text(format!(in alloc; "package `{key}` is already there"))
 }
 
 /// A fault of composing, but for a key that is there already.
 pub fn not_composed(alloc: Global, fault: &ComposeError) -> Stop
-    ensures { TellsOf fault.now result }
+    ensures place { TellsOf fault.now result }
+    ensures cause { StopsFor (fault.now ≢ Composing.Memory) result }
 {
     match fault {
         ComposeError::Memory => Stop::Memory,
@@ -141,6 +152,8 @@ pub fn not_composed(alloc: Global, fault: &ComposeError) -> Stop
 }
 
 /// A fault that has a text alone.
-pub(crate) fn plain<E: Display>(alloc: Global, fault: &E) -> Stop {
+pub(crate) fn plain<E: Display>(alloc: Global, fault: &E) -> Stop
+    ensures { StopsFor (Unit {0}) result }
+{
     of_fault(alloc, fault, None)
 }

@@ -2,12 +2,13 @@ use Rattle.std.proofs.Common.{◌≡◌, ◌+◌, ◌++◌, ◌∷◌, [], All, 
 use Rattle.std.specs.List.{AllZip}
 use Rattle.std.proofs.lemmas.List.{take_all}
 use Rattle.std.proofs.lemmas.List.Elements.{All-nil}
-use Rattle.wac_types_base.proofs.Looked.{take-one_more}
+use Rattle.wac_types_base.proofs.Looked.{among-get, take-one_more}
 use Rattle.wac_types_base.proofs.Loops.{get-place}
 use Rattle.wac_workspace.proofs.Zips.{zip_last}
 use Rattle.wac_texts.specs.Worlds.{HasWorld}
 use Rattle.wac_texts.proofs.Planned.{all_end}
 use Rattle.wac.specs.Running.{IsFound}
+use Rattle.wac.proofs.Refusing.{again_stops}
 use Rattle.wac.proofs.Running.{zip_none}
 use Rattle.wac.proofs.commands.find_all.Goals as goal
 
@@ -39,3 +40,10 @@ returns-clause-worlds c = c.loop-key.invariant.worlds
 pub returns-clause-found : goal.returns-clause-found
 returns-clause-found c =
     subst (λ ks. AllZip (IsFound c.args.workspace.now.packages) ks c.loop-key.found.items) (take_all c.loop-key.key-index c.args.keys.now c.loop-key-test.false) c.loop-key.invariant.found
+
+pub returns-in_err-find-clause-refused : goal.returns-in_err-find-clause-refused
+returns-in_err-find-clause-refused c =
+    let keys = c.args.keys.now in
+    let k = c.key-item.result in
+    let at : slice_get keys c.loop-key.key-index ≡ Some k = get-place keys c.loop-key.key-index k c.loop-key-test.true c.key-item.is in
+    again_stops c.from_residual.result c.in_err-find.field-0.0 c.from_residual.ensures.1 (λ none. (k, among-get keys c.loop-key.key-index k at, none)) c.in_err-find.ensures.refused

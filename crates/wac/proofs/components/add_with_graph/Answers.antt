@@ -5,8 +5,8 @@ use Rattle.wac_types_base.specs.Entries.{Name}
 use Rattle.wac_texts.specs.Worlds.{IsDefined}
 use Rattle.wac.proofs.components.add_with_graph.Goals as goal
 
-pub returns-in-Ok-add_package : goal.returns-in-Ok-add_package
-returns-in-Ok-add_package c = record {
+pub returns-in-Ok-add_package-clause-added : goal.returns-in-Ok-add_package-clause-added
+returns-in-Ok-add_package-clause-added c = record {
   handed = record {
     parts = record {
       key = (c.as_str-name.result.now, option_map parts_of (option_copied c.as_ref-version.result));

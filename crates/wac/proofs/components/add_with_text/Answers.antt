@@ -10,6 +10,7 @@ use Rattle.wac_parser_resolve.specs.Resolved.{graph_of, places_of, target_of}
 use Rattle.wac_workspace.proofs.Resolved.{graph_held}
 use Rattle.wac_texts.specs.Declarations.{declared_in}
 use Rattle.wac.specs.Adding.{AddsDefined}
+use Rattle.wac.proofs.Refusing.{err_stops, graph_lacks}
 use Rattle.wac.proofs.components.add_with_text.Goals as goal
 
 pub returns-in-Ok-resolve : goal.returns-in-Ok-resolve
@@ -18,12 +19,18 @@ returns-in-Ok-resolve g c =
     let d = g.D.ResolveDocument.stated t in
     let r = c.in-Ok-resolve.resolution in
     let held = subst (λ ps. IsHeld (λ (s : State × Option Stated) b. HoldsAll s (graph_of b) (places_of b) (target_of b)) (resolved d ps) r) (ap handed_entries c.new-none.ensures.empty) c.in-Ok-resolve.ensures.outcome in
+    let holds = graph_held graph_of places_of target_of (resolved d []) r c.graph.result.now c.graph.ensures held in
     let declares = c.declares-declares.ensures ∙ ap (declared_in (g.D.DeclareDocument.stated t)) c.as_str.ensures.value in
-    on_ok_weaker c.add_with_graph.result
-    (λ adds. record {
-      tree = t;
-      read = c.in-Ok.ensures;
-      graph = c.graph.result.now;
-      holds = graph_held graph_of places_of target_of (resolved d []) r c.graph.result.now c.graph.ensures held;
-      adds = subst (λ x. AddsDefined c.graph.result.now x c.args.added c.args.workspace.now.packages c.add_with_graph.new.workspace.packages) declares adds;
-    }) c.add_with_graph.ensures
+    record {
+      added = on_ok_weaker c.add_with_graph.result
+          (λ adds. record {
+            tree = t;
+            read = c.in-Ok.ensures;
+            graph = c.graph.result.now;
+            holds = holds;
+            adds = subst (λ x. AddsDefined c.graph.result.now x c.args.added c.args.workspace.now.packages c.add_with_graph.new.workspace.packages) declares adds;
+          }) c.add_with_graph.ensures.added;
+      refused = err_stops c.add_with_graph.result
+          (graph_lacks g.D.ParseDocument.view g.D.ParseDocument.rule g.D.ResolveDocument.stated g.D.DeclareDocument.stated c.args.source.now c.args.added c.args.workspace.now t c.graph.result.now _ c.in-Ok.ensures holds declares)
+          c.add_with_graph.ensures.refused;
+    }
