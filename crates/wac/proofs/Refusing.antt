@@ -1,5 +1,5 @@
 -- Causes of stops, one from another.
-use Rattle.std.proofs.Common.{◌≡◌, ◌⊎◌, ℕ, Bool, List, [], slice_get, take, length, Option, Some, Result, Ok, Err, IfErr, IsErrAnd, Vec, Global, string_bytes, inl, inr, sym, subst, ◌∙◌}
+use Rattle.std.proofs.Common.{◌≡◌, ◌⊎◌, ℕ, Bool, List, [], slice_get, take, length, Option, Some, Result, Ok, Err, IfOk, IfErr, IsErrAnd, String, Vec, Global, string_bytes, inl, inr, refl, sym, ap, subst, ◌∙◌}
 use Rattle.std.specs.Iterator.{Yields}
 use Rattle.std.proofs.lemmas.List.{map-id}
 use Rattle.std.proofs.lemmas.Iterator.{YieldsList}
@@ -16,6 +16,8 @@ use Rattle.wac_parser_resolve.specs.Meeting.{resolved}
 use Rattle.wac_parser_tree.specs.declared.document.Document.{Document as Tree}
 use Rattle.wac_parser_tree.specs.Trees.{Document}
 use Rattle.wac_parser_tree.specs.Views.{view_document}
+use Rattle.wac_parser_lexer.specs.declared.span.SourceSpan.{SourceSpan}
+use Rattle.wac_streams.specs.Calls.{AppendsPrefix}
 use Rattle.wac_texts.specs.declared.declared.Declares.{Declares}
 use Rattle.wac_texts.specs.Declarations.{declared_in}
 use Rattle.wac_texts.specs.Files.{Stored}
@@ -28,6 +30,7 @@ use Rattle.wac.specs.Adding.{AddsComponents, IsBytesOf, added_key, component_key
 use Rattle.wac.specs.Loading.{IsTextOf, StopsFor}
 use Rattle.wac.specs.Refusing.{EndsFor, GivesNoWorld, IsNotAdded, IsNotRead, IsStopped, IsTaken, IsUnput, ReadsNone, StopsAdding, StopsComposing}
 use Rattle.wac.specs.Running.{Outside, PutsSources}
+use Rattle.wac.specs.Telling.{Tells, TellsLine, refused_text, told_text}
 
 pub stops_map : {P Q : Type 0} (s : Stop) → (P → Q) → StopsFor P s → StopsFor Q s
 stops_map (Stop.Refused text span) more h = more h
@@ -127,3 +130,15 @@ stops_at define all w mid before between done s at puts cause = record {
   puts = subst (λ (xs : List Source). PutsSources define xs w mid before between) at.0 puts;
   cause = cause;
 }
+
+-- ---- lines
+
+-- a stop is told by its line
+pub told_line : {E : Type 0} (text : String Global) (span : Option SourceSpan) (stop : Stop) (shown : List ℕ) (line : Result (String Global) E) (before after : Option (List ℕ)) → stop ≡ Stop.Refused text span → shown ≡ string_bytes text
+    → IfOk line (λ l. string_bytes l ≡ refused_text shown span) → TellsLine line before after → Tells stop before after
+told_line text span stop shown (Ok l) before after is text_is same t = record {
+  told = stop;
+  either = inl refl;
+  written = subst (AppendsPrefix before after) (same ∙ ap (λ (x : List ℕ). refused_text x span) text_is ∙ sym (ap told_text is)) t;
+}
+told_line text span stop shown (Err e) before after is text_is same t = record { told = Stop.Memory; either = inr refl; written = t }

@@ -1,5 +1,9 @@
 -- Where what is told of a fault stands.
-use Rattle.std.specs.Prelude.{◌≡◌, Option, Some, None}
+use Rattle.std.specs.Prelude.{◌≡◌, ◌⊎◌, ℕ, List, [], ◌∷◌, ◌++◌, Option, Some, None, Result, Ok, Err, codes, string_bytes}
+use Rattle.std.specs.declared.alloc.Global.{Global}
+use Rattle.std.specs.declared.string.String.{String}
+use Rattle.std.specs.Fmt.{decimal}
+use Rattle.wac_streams.specs.Calls.{AppendsPrefix}
 use Rattle.wac_parser_lexer.specs.declared.span.SourceSpan.{SourceSpan}
 use Rattle.wac_parser_grammar.specs.declared.error.Error.{Error}
 use Rattle.wac_parser_grammar.specs.declared.error.Error.TheVariants as e
@@ -32,3 +36,33 @@ TellsOf (composing.Parse fault) stop = TellsAt (place_in_source fault) stop
 TellsOf (composing.Resolution fault) stop = TellsAt (span_of (cause_of fault)) stop
 TellsOf composing.Memory stop = stop ≡ Stop.Memory
 TellsOf fault stop = TellsAt None stop
+
+-- ---- texts
+
+-- a refusal with its place
+abbrev pub placed_text : List ℕ → SourceSpan → List ℕ
+placed_text text span = codes "error: " ++ text ++ codes " at " ++ (decimal span.offset ++ 43 ∷ decimal span.length) ++ codes "\n"
+
+abbrev pub refused_text : List ℕ → Option SourceSpan → List ℕ
+refused_text text None = codes "error: " ++ text ++ codes "\n"
+refused_text text (Some span) = placed_text text span
+
+abbrev pub short_text : List ℕ
+short_text = codes "error: out of memory\n"
+
+-- the line that tells of a stop; where a writer failed there is none
+abbrev pub told_text : Stop → List ℕ
+told_text (Stop.Refused text span) = refused_text (string_bytes text) span
+told_text Stop.Unwritten = []
+told_text Stop.Memory = short_text
+
+-- the line, if there is one, or else that memory was short, is written, or a front of it
+abbrev pub TellsLine : {E : Type 0} → Result (String Global) E → (before after : Option (List ℕ)) → Type 0
+TellsLine (Ok line) before after = AppendsPrefix before after (string_bytes line)
+TellsLine (Err e) before after = AppendsPrefix before after short_text
+
+-- a stop is told, or else want of memory: a front of that line is written, or all of it
+pub record Tells (stop : Stop) (before after : Option (List ℕ)) : Type 0 where
+  pub told : Stop
+  pub either : (told ≡ stop) ⊎ (told ≡ Stop.Memory)
+  pub written : AppendsPrefix before after (told_text told)

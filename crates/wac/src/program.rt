@@ -1,25 +1,30 @@
 //! The run of the program.
 
-ghost use Rattle.std.specs.Prelude.{◌≡◌, ◌≤◌, ◌⊎◌, ◌↔◌, List, [], ◌∷◌, codes, map, IsSome, IfSome, IfOk, OnOk, string_bytes};
+ghost use Rattle.std.specs.Prelude.{◌≡◌, ◌≤◌, ◌⊎◌, ◌↔◌, ◌++◌, List, [], ◌∷◌, codes, map, IsSome, IfSome, IfOk, OnOk, string_bytes};
+ghost use Rattle.std.specs.Fmt.{decimal};
 ghost use Rattle.std.specs.Io.KnownBytes.{Appends};
 ghost use Rattle.wac_streams.specs.Calls.{FailedOnce};
 ghost use Rattle.wac_types_base.specs.Entries.{Name};
 ghost use Rattle.wac_workspace.specs.Reading.{ToEnd};
 ghost use Rattle.wac.specs.declared.program.Command.{Command};
 ghost use Rattle.wac.specs.Running.{DoesAt, IsTextAt, Runs, outside};
+ghost use Rattle.wac.specs.Telling.{Tells, TellsLine, placed_text, refused_text};
 ghost use Rattle.wac.specs.Words.{IsCommand, Asks, usage, word_of};
 
 use crate::commands::{compose, format, plug};
 use crate::components::{read_file, text_of};
 use crate::sources::put;
 use crate::stop::{Stop, cannot_read};
-use std::alloc::Global;
+use std::alloc::{AllocError, Global};
 use wac_parser_lexer::SourceSpan;
 use wac_texts::Files;
 use wac_workspace::{ByteSink, ByteSource, StreamError, read_source};
 
 /// What other words are answered.
 const USAGE: &str = "usage: wac compose|format|plug FILE\n";
+
+/// What is told where memory was short.
+const SHORT: &str = "error: out of memory\n";
 
 /// The status of a run that did what it was asked.
 const DONE: u8 = 0;
@@ -125,26 +130,58 @@ fn done<F: Files, R: ByteSource, O: ByteSink>(
     }
 }
 
-/// Tells a place.
-fn tell_place<E: ByteSink>(alloc: Global, err: &mut E, span: SourceSpan) -> Result<(), Stop> {
-    let SourceSpan { offset, length } = span;
-    let place = format!(in alloc; " at {offset}+{length}")?;
-    put(err, place.as_str())
+/// The line of a refusal without a place.
+fn plain_line(alloc: Global, text: &str) -> Result<String, AllocError>
+    ensures { IfOk result (λ line. string_bytes line ≡ codes "error: " ++ text.now ++ codes "\n") }
+{
+    format!(in alloc; "error: {text}\n")
 }
 
-/// Tells why a run was refused.
-fn tell<E: ByteSink>(alloc: Global, err: &mut E, stop: Stop) -> Result<(), Stop> {
+/// A place, by two numbers.
+fn place_of(alloc: Global, offset: usize, length: usize) -> Result<String, AllocError>
+    ensures { IfOk result (λ place. string_bytes place ≡ decimal offset ++ 43 ∷ decimal length) }
+{
+    format!(in alloc; "{offset}+{length}")
+}
+
+/// The line of a refusal with its place.
+fn placed_line(alloc: Global, text: &str, span: SourceSpan) -> Result<String, AllocError>
+    ensures { IfOk result (λ line. string_bytes line ≡ placed_text text.now span) }
+{
+    let place = place_of(alloc, span.offset, span.length)?;
+    format!(in alloc; "error: {text} at {place}\n")
+}
+
+/// The line that tells of a refusal.
+fn line_of(alloc: Global, text: &str, span: Option<SourceSpan>) -> Result<String, AllocError>
+    ensures { IfOk result (λ line. string_bytes line ≡ refused_text text.now span) }
+{
+    match span {
+        None => plain_line(alloc, text),
+        Some(span) => placed_line(alloc, text, span),
+    }
+}
+
+/// Tells a line, or else that memory was short.
+fn tell_line<E: ByteSink>(err: &mut E, line: Result<String, AllocError>)
+    ensures { TellsLine line (E.contents err.old) (E.contents err.new) }
+{
+    let _ = match line {
+        Ok(line) => put(err, line.as_str()),
+        Err(AllocError) => put(err, SHORT),
+    };
+}
+
+/// Tells why a run was refused, or else that memory was short. Whether that is written makes no difference.
+fn tell<E: ByteSink>(alloc: Global, err: &mut E, stop: Stop)
+    ensures { Tells stop (E.contents err.old) (E.contents err.new) }
+{
     match stop {
-        Stop::Unwritten => Ok(()),
-        Stop::Memory => put(err, "error: out of memory\n"),
-        Stop::Refused { text, span } => {
-            put(err, "error: ")?;
-            put(err, text.as_str())?;
-            if let Some(span) = span {
-                tell_place(alloc, err, span)?;
-            }
-            put(err, "\n")
+        Stop::Unwritten => {}
+        Stop::Memory => {
+            let _ = put(err, SHORT);
         }
+        Stop::Refused { text, span } => tell_line(err, line_of(alloc, text.as_str(), span)),
     }
 }
 
@@ -185,7 +222,7 @@ pub fn run<F: Files, R: ByteSource, O: ByteSink, E: ByteSink>(
     match done(alloc, command, path, input, files, out) {
         Ok(()) => DONE,
         Err(stop) => {
-            let _ = tell(alloc, err, stop);
+            tell(alloc, err, stop);
             REFUSED
         }
     }

@@ -14,9 +14,9 @@ use Rattle.wac_composition.specs.Classes.{class, spelling}
 use Rattle.wac_composition.specs.Merging.{kept}
 use Rattle.wac_composition.specs.OuterImports.{asked_in, outer_imports}
 use Rattle.wac_composition.specs.Writable.{holder, as_defined, is_value, outer_unwritable, definition_unwritable, package_unwritable, alias_unwritable}
-use Rattle.wac_composition.specs.Circles.{written_inside}
+use Rattle.wac_composition.specs.Circles.{written_inside, written_whole}
 use Rattle.std.specs.Option.{option_or}
-use Rattle.wac_composition.specs.Conflicts.{Cause, Unwritable, first_found, implicit_with, implicit_by, implicit_conflict, merge_cause, merge_fails, those_in, merge_conflict, cause_at, placed, unwritable_cause, circle_cause, late_unwritable, written_forms, outers_written, dependencies_of, first_cause}
+use Rattle.wac_composition.specs.Conflicts.{Cause, Unwritable, first_found, implicit_with, implicit_by, implicit_conflict, merge_cause, merge_fails, those_in, merge_conflict, cause_at, placed, unwritable_cause, circle_cause, late_unwritable, whole_forms, outers_written, dependencies_of, first_cause}
 use Rattle.wac_composition.specs.Against.{IsUnmerged, StandsAgainst, asked_twice, import_unmerged, ask_unmerged, alias_of_value, outer_import, outer_in_circle, circle_in_definition, circle_in_package, definition, imported_package, FirstStands}
 use Rattle.wac_composition.proofs.NotFound.{written_decides}
 use Rattle.wac_composition.proofs.Lists.{mapped_among}
@@ -200,7 +200,7 @@ module _ {A I : Type 0} (define : Bool) (c : Composition A I) where
   of_outers = outers_written (spelling (asks_of c)) outers
 
   abbrev of_definitions : List (Name × Stated)
-  of_definitions = flat_map written_inside (written_forms c.definitions)
+  of_definitions = flat_map written_whole (whole_forms c.definitions)
 
   abbrev of_packages : List (Name × Stated)
   of_packages = flat_map written_inside (dependencies_of define c)
@@ -210,20 +210,20 @@ module _ {A I : Type 0} (define : Bool) (c : Composition A I) where
     | inl a ↦
         let f = cause_some (late_unwritable true) of_outers x a in
         subst Stands f.3 (outer_in_circle f.0.0 f.0.1 f.1 ((written_decides true (holder [] []) f.0.0 f.0.1).0 f.2))
-    | inr r ↦ elim (or_some (first_found (cause_at (late_unwritable false)) of_definitions) _ x r.1) [
+    | inr r ↦ elim (or_some (first_found (cause_at (late_unwritable true)) of_definitions) _ x r.1) [
       | inl a ↦
-          let f = cause_some (late_unwritable false) of_definitions x a in
-          subst Stands f.3 (circle_in_definition f.0.0 f.0.1 f.1 ((written_decides false (holder [] []) f.0.0 f.0.1).0 f.2))
+          let f = cause_some (late_unwritable true) of_definitions x a in
+          subst Stands f.3 (circle_in_definition f.0.0 f.0.1 f.1 ((written_decides true (holder [] []) f.0.0 f.0.1).0 f.2))
       | inr s ↦
           let f = cause_some (late_unwritable true) of_packages x s.1 in
           subst Stands f.3 (circle_in_package f.0.0 f.0.1 f.1 ((written_decides true (holder [] []) f.0.0 f.0.1).0 f.2))
     ]
   ]
 
-  no_circle : circle_cause define c (spelling (asks_of c)) outers ≡ None → (first_found (cause_at {A = A} (late_unwritable true)) of_outers ≡ None) × (first_found (cause_at {A = A} (late_unwritable false)) of_definitions ≡ None) × (first_found (cause_at {A = A} (late_unwritable true)) of_packages ≡ None)
+  no_circle : circle_cause define c (spelling (asks_of c)) outers ≡ None → (first_found (cause_at {A = A} (late_unwritable true)) of_outers ≡ None) × (first_found (cause_at {A = A} (late_unwritable true)) of_definitions ≡ None) × (first_found (cause_at {A = A} (late_unwritable true)) of_packages ≡ None)
   no_circle e =
       let one = or_none (first_found (cause_at {A = A} (late_unwritable true)) of_outers) _ e in
-      let two = or_none (first_found (cause_at {A = A} (late_unwritable false)) of_definitions) _ one.1 in
+      let two = or_none (first_found (cause_at {A = A} (late_unwritable true)) of_definitions) _ one.1 in
       (one.0, two.0, two.1)
 
   first_stands : (x : Cause A) → first_cause define c ≡ Some x → Stands x
@@ -252,14 +252,14 @@ module _ {A I : Type 0} (define : Bool) (c : Composition A I) where
       go : implicit_conflict c.imports (asks_of c) ≡ None → merge_conflict (asks_of c) [] (asks_of c) ≡ None → first_found (cause_at {A = A} alias_unwritable) c.aliases ≡ None
           → first_found (cause_at {A = A} (outer_unwritable outers)) outers ≡ None → first_found (cause_at {A = A} (definition_unwritable outers)) (placed c.definitions) ≡ None
           → first_found (cause_at {A = A} package_unwritable) (dependencies_of define c) ≡ None → first_found (cause_at {A = A} (late_unwritable true)) of_outers ≡ None
-          → first_found (cause_at {A = A} (late_unwritable false)) of_definitions ≡ None → first_found (cause_at {A = A} (late_unwritable true)) of_packages ≡ None → (x : Cause A) → Stands x → ⊥
+          → first_found (cause_at {A = A} (late_unwritable true)) of_definitions ≡ None → first_found (cause_at {A = A} (late_unwritable true)) of_packages ≡ None → (x : Cause A) → Stands x → ⊥
       go p q r s t v w y z x (asked_twice i a m n k e) = no_implicit p i a m n k e
       go p q r s t v w y z x (import_unmerged a b u k) = no_unmerged q a b u
       go p q r s t v w y z x (ask_unmerged a b u k) = no_unmerged q a b u
       go p q r s t v w y z x (alias_of_value n u m k) = cause_none alias_unwritable c.aliases r (n, u) m (ap is_value k)
       go p q r s t v w y z x (outer_import n u m f) = cause_none (outer_unwritable outers) outers s (n, u) m ((written_decides true (holder [] outers) n u).1 f)
       go p q r s t v w y z x (outer_in_circle n u m f) = cause_none (late_unwritable true) of_outers w (n, u) m ((written_decides true (holder [] []) n u).1 f)
-      go p q r s t v w y z x (circle_in_definition n u m f) = cause_none (late_unwritable false) of_definitions y (n, u) m ((written_decides false (holder [] []) n u).1 f)
+      go p q r s t v w y z x (circle_in_definition n u m f) = cause_none (late_unwritable true) of_definitions y (n, u) m ((written_decides true (holder [] []) n u).1 f)
       go p q r s t v w y z x (circle_in_package n u m f) = cause_none (late_unwritable true) of_packages z (n, u) m ((written_decides true (holder [] []) n u).1 f)
       go p q r s t v w y z x (definition d m f) =
           cause_none (definition_unwritable outers) (placed c.definitions) t (d.name, d.item) (among_mapped (λ d. (d.name, d.item)) c.definitions d m) ((written_decides false (holder [] outers) d.name (as_defined d.item)).1 f)

@@ -261,17 +261,13 @@ module _ (p : Parts Found) (fu : UsesFound p.uses) (fi : ItemsFound p.imports) (
   imported_decides : (u : Used) (n : Name) → Decides (is_given_by (value_at p.imports n) u) (IsImported (plain p.imports) n u)
   imported_decides u n = go (value_at p.imports n) (plain_value p.imports n)
     where
-      stands : (x y : Option Stated) → Decides (stands_as x y) ((z : Stated) → x ≡ Some z → (w : Stated) × (y ≡ Some w) × (kind_of z ≡ IsResource → tree z ≡ tree w))
+      stands : (x y : Option Stated) → Decides (stands_as x y) ((z : Stated) → x ≡ Some z → (w : Stated) × (y ≡ Some w) × (tree z ≡ tree w))
       stands None y = (λ e z q. absurd (none-some _ q), λ h. refl)
       stands (Some x) None = (λ e. absurd (true≢false (sym e)), λ h. absurd (let r = h x refl in none-some _ r.1))
-      stands (Some x) (Some y) = go_both (is_resource (kind_of x)) refl
-        where
-          go_both : (b : Bool) → is_resource (kind_of x) ≡ b → Decides (not b || same_tree (tree x) (tree y)) ((z : Stated) → Some x ≡ Some z → (w : Stated) × (Some y ≡ Some w) × (kind_of z ≡ IsResource → tree z ≡ tree w))
-          go_both false e = (λ q z r. (y, refl, λ k. absurd (true≢false (sym ((resource_decides (kind_of x)).1 (ap kind_of (same_Some _ _ r) ∙ k)) ∙ e))), λ h. refl)
-          go_both true e = (
-            λ q z r. (y, refl, λ k. ap tree (sym (same_Some _ _ r)) ∙ (trees_decide x y).0 q),
-            λ h. let w = h x refl in (trees_decide x y).1 (w.2 ((resource_decides (kind_of x)).0 e) ∙ ap tree (sym (same_Some _ _ w.1))),
-          )
+      stands (Some x) (Some y) = (
+        λ q z r. (y, refl, ap tree (sym (same_Some _ _ r)) ∙ (trees_decide x y).0 q),
+        λ h. let w = h x refl in (trees_decide x y).1 (w.2 ∙ ap tree (sym (same_Some _ _ w.1))),
+      )
 
       go : (o : Option (Stated × Found)) → value_at (plain p.imports) n ≡ option_map (λ x. x.0) o → Decides (is_given_by o u) (IsImported (plain p.imports) n u)
       go None e = (λ q. absurd (true≢false (sym q)), λ h. absurd (none-some _ (sym e ∙ h.there)))

@@ -5,7 +5,7 @@ use Rattle.std.specs.Cmp.Lexicographic.{pointwise}
 use Rattle.std.proofs.lemmas.List.{map-append}
 use Rattle.std.proofs.Common.{◌≡◌, ℕ, zero, suc, List, [], ◌∷◌, ◌++◌, map, length, Bool, true, false, Option, Some, None, refl, sym, ap, ◌∙◌}
 use Rattle.wac_types_base.specs.Entries.{Name, names_of, value_at}
-use Rattle.wac_types_base.specs.Stated.{Stated, imports_of, identifier_of, world_of}
+use Rattle.wac_types_base.specs.Stated.{Stated, imports_of, identifier_of, kind_of, world_of}
 use Rattle.wac_types_names.specs.Keys.{Key, same_key}
 use Rattle.wac_graph_bytes.specs.Wirings.{Source, Absent, Outer, Inst, Projection, Bundle, Definition, project, rename}
 use Rattle.wac_composition.specs.Composition.{Origin, imported, instance, projected, defined, Placed, Made, Composition}
@@ -14,9 +14,9 @@ use Rattle.wac_composition.specs.Names.{greatest}
 use Rattle.wac_composition.specs.Classes.{near, within_steps, class, spelled, spelling, akin}
 use Rattle.wac_composition.specs.Merging.{kept, identified}
 use Rattle.wac_composition.specs.OuterImports.{with_new, asked_in, outer_of, outers_from, outer_imports}
-use Rattle.wac_composition.specs.Circles.{written_inside}
+use Rattle.wac_composition.specs.Circles.{written_inside, written_whole}
 use Rattle.std.specs.Option.{option_or}
-use Rattle.wac_composition.specs.Conflicts.{Cause, Unwritable, ImportNames, ExportNames, first_found, dependency_name, each_once, dependencies_of, implicit_with, implicit_by, circle_cause, implicit_conflict, merge_cause, merge_fails, those_in, merge_conflict, cause_at, placed, unwritable_cause, late_unwritable, written_forms, outers_written, first_cause, twins, alike, import_names, name_cause}
+use Rattle.wac_composition.specs.Conflicts.{Cause, Unwritable, ImportNames, ExportNames, first_found, dependency_name, each_once, dependencies_of, implicit_with, implicit_by, circle_cause, implicit_conflict, merge_cause, merge_fails, those_in, merge_conflict, cause_at, placed, unwritable_cause, late_unwritable, is_whole, written_forms, whole_forms, outers_written, first_cause, twins, alike, import_names, name_cause}
 use Rattle.wac_composition.specs.Writable.{outer_unwritable, definition_unwritable, package_unwritable, alias_unwritable}
 use Rattle.wac_types_written.specs.Written.{without_uses, written_definition}
 use Rattle.wac_composition.specs.Worlds.{then_in, final_type, source_of, world_exports, composed_world}
@@ -243,6 +243,9 @@ module _ {A B : Type 0} (f : A → B) where
   forms_same : (ds : List (Placed A)) → written_forms (map (placed_renamed f) ds) ≡ written_forms ds
   forms_same ds = sym (map_twice (λ (d : Placed B). (d.name, written_definition d.item)) (placed_renamed f) ds)
 
+  whole_same : (ds : List (Placed A)) → whole_forms (map (placed_renamed f) ds) ≡ whole_forms ds
+  whole_same ds = ap (filter (λ (e : Name × Stated). is_whole (kind_of e.1))) (forms_same ds)
+
   module _ {I J : Type 0} (g : I → J) where
     once_renamed : (seen : List Key) (ms : List (Made A I)) → each_once seen (map (made_renamed f g) ms) ≡ each_once seen ms
     once_renamed seen [] = refl
@@ -269,8 +272,8 @@ module _ {A B : Type 0} (f : A → B) where
 
       circle_renamed : (define : Bool) (spell : Name → Name) (outers : List (Name × Stated)) → circle_cause define (renamed f g c) spell outers ≡ option_map as_cause (circle_cause define c spell outers)
       circle_renamed define spell outers =
-          let definitions_ : first_found (cause_at {A = B} (late_unwritable false)) (flat_map written_inside (written_forms (map (placed_renamed f) c.definitions))) ≡ option_map as_cause (first_found (cause_at (late_unwritable false)) (flat_map written_inside (written_forms c.definitions))) =
-          ap (λ es. first_found (cause_at (late_unwritable false)) (flat_map written_inside es)) (forms_same c.definitions) ∙ found_same (cause_at (late_unwritable false)) (cause_at (late_unwritable false)) (cause_here (late_unwritable false)) (flat_map written_inside (written_forms c.definitions)) in
+          let definitions_ : first_found (cause_at {A = B} (late_unwritable true)) (flat_map written_whole (whole_forms (map (placed_renamed f) c.definitions))) ≡ option_map as_cause (first_found (cause_at (late_unwritable true)) (flat_map written_whole (whole_forms c.definitions))) =
+          ap (λ es. first_found (cause_at (late_unwritable true)) (flat_map written_whole es)) (whole_same c.definitions) ∙ found_same (cause_at (late_unwritable true)) (cause_at (late_unwritable true)) (cause_here (late_unwritable true)) (flat_map written_whole (whole_forms c.definitions)) in
           let packages_ : first_found (cause_at {A = B} (late_unwritable true)) (flat_map written_inside (dependencies_of define (renamed f g c))) ≡ option_map as_cause (first_found (cause_at (late_unwritable true)) (flat_map written_inside (dependencies_of define c))) =
           ap (λ es. first_found (cause_at (late_unwritable true)) (flat_map written_inside es)) (dependencies_same define) ∙ found_same (cause_at (late_unwritable true)) (cause_at (late_unwritable true)) (cause_here (late_unwritable true)) (flat_map written_inside (dependencies_of define c)) in
           or_both (first_found (cause_at (late_unwritable true)) (outers_written spell outers)) _ (first_found (cause_at (late_unwritable true)) (outers_written spell outers)) _ (found_same (cause_at (late_unwritable true)) (cause_at (late_unwritable true)) (cause_here (late_unwritable true)) (outers_written spell outers))

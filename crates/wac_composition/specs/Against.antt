@@ -10,9 +10,9 @@ use Rattle.wac_composition.specs.Classes.{class, spelling}
 use Rattle.wac_composition.specs.Merging.{kept}
 use Rattle.wac_composition.specs.OuterImports.{asked_in, outer_imports}
 use Rattle.wac_composition.specs.Writable.{holder, as_defined}
-use Rattle.wac_composition.specs.Circles.{written_inside}
+use Rattle.wac_composition.specs.Circles.{written_inside, written_whole}
 use Rattle.wac_composition.specs.NotWritten.{CannotBeWritten}
-use Rattle.wac_composition.specs.Conflicts.{Cause, ImplicitImport, ExplicitImport, ImportTypes, Unwritable, those_in, dependencies_of, written_forms, outers_written, first_cause}
+use Rattle.wac_composition.specs.Conflicts.{Cause, ImplicitImport, ExplicitImport, ImportTypes, Unwritable, those_in, dependencies_of, whole_forms, outers_written, first_cause}
 
 module _ {A I : Type 0} (define : Bool) (c : Composition A I) where
   -- The asks up to this one that are one outer import with it keep nothing; the first of them is that other one.
@@ -36,9 +36,9 @@ module _ {A I : Type 0} (define : Bool) (c : Composition A I) where
     -- as they are written: an outer import, or an import of a component type that stands in one
     outer_in_circle : (n : Name) (x : Stated) → Among (n, x) (outers_written (spelling (asks_of c)) (outer_imports (asks_of c)))
         → CannotBeWritten true (holder [] []) n x → StandsAgainst (Unwritable n)
-    -- in a definition
-    circle_in_definition : (n : Name) (x : Stated) → Among (n, x) (flat_map written_inside (written_forms c.definitions))
-        → CannotBeWritten false (holder [] []) n x → StandsAgainst (Unwritable n)
+    -- a definition, or an import of a component type that stands in one
+    circle_in_definition : (n : Name) (x : Stated) → Among (n, x) (flat_map written_whole (whole_forms c.definitions))
+        → CannotBeWritten true (holder [] []) n x → StandsAgainst (Unwritable n)
     -- in an imported package
     circle_in_package : (n : Name) (x : Stated) → Among (n, x) (flat_map written_inside (dependencies_of define c))
         → CannotBeWritten true (holder [] []) n x → StandsAgainst (Unwritable n)

@@ -104,3 +104,7 @@ imports_inside = folded imports_inside_at
 -- the interfaces that they import, each as it is written, under the item's name
 abbrev pub written_inside : Name × Stated → List (Name × Stated)
 written_inside e = map (λ x. (e.0, x.1)) (flat_map (interfaces_written (λ n. n)) (imports_inside e.1))
+
+-- the item itself, and these
+abbrev pub written_whole : Name × Stated → List (Name × Stated)
+written_whole e = e ∷ written_inside e

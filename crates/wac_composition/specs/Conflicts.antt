@@ -5,7 +5,7 @@ use Rattle.std.specs.List.{list_any, flat_map}
 use Rattle.semver.specs.Parse.{Parts}
 use Rattle.semver.specs.Identifiers.{parts_text}
 use Rattle.wac_types_base.specs.Entries.{Name, names_of}
-use Rattle.wac_types_base.specs.Stated.{Stated}
+use Rattle.wac_types_base.specs.Stated.{Stated, Kind, IsInterface, IsWorld, kind_of}
 use Rattle.wac_types_names.specs.Keys.{Key, same_key}
 use Rattle.wac_composition.specs.Composition.{Placed, Made, Composition}
 use Rattle.wac_composition.specs.Asks.{Asking, ByName, ToFill, Ask, asks_of}
@@ -14,7 +14,7 @@ use Rattle.wac_composition.specs.Merging.{kept}
 use Rattle.wac_composition.specs.OuterImports.{asked_in, outer_imports}
 use Rattle.wac_types_written.specs.Written.{written_definition}
 use Rattle.wac_composition.specs.Writable.{holder, unwritable, outer_unwritable, definition_unwritable, package_unwritable, alias_unwritable}
-use Rattle.wac_composition.specs.Circles.{interfaces_written, written_inside}
+use Rattle.wac_composition.specs.Circles.{interfaces_written, written_inside, written_whole}
 
 pub data Cause (A : Type 0) : Type 0 where
   -- an instance's import that is not given has exactly the name of an import
@@ -54,10 +54,15 @@ abbrev pub dependencies_of : {A I : Type 0} → (define : Bool) → Composition 
 dependencies_of true c = []
 dependencies_of false c = each_once [] c.made
 
--- ---- interfaces that are imported, as they are written
+-- ---- what is written, as it is written
 
 abbrev pub late_unwritable : (outer : Bool) → Name × Stated → Bool
 late_unwritable outer e = unwritable e.1 e.0 (holder [] []) outer
+
+abbrev pub is_whole : Kind → Bool
+is_whole IsInterface = true
+is_whole IsWorld = true
+is_whole k = false
 
 -- outer imports, and those of component types that stand in them
 abbrev pub outers_written : (Name → Name) → List (Name × Stated) → List (Name × Stated)
@@ -115,12 +120,17 @@ module _ {A : Type 0} where
   abbrev pub written_forms : List (Placed A) → List (Name × Stated)
   written_forms ds = map (λ d. (d.name, written_definition d.item)) ds
 
-  -- An interface that could be written but for those that it uses and that wait for it: an outer import, or an import of a
-  -- component type that stands in an outer import, in a definition as it is written, or in the world of an imported package.
+  -- those of interfaces and of worlds
+  abbrev pub whole_forms : List (Placed A) → List (Name × Stated)
+  whole_forms ds = filter (λ e. is_whole (kind_of e.1)) (written_forms ds)
+
+  -- What could be written but for what its parts use, as it is written: an interface that uses one that waits for it, which is an
+  -- outer import, or an import of a component type that stands in an outer import, in a definition, or in the world of an imported
+  -- package; and a definition, whose component types import all that they use.
   abbrev pub circle_cause : {I : Type 0} → Bool → Composition A I → (Name → Name) → List (Name × Stated) → Option (Cause A)
   circle_cause define c spell outers =
       option_or (first_found (cause_at (late_unwritable true)) (outers_written spell outers))
-      (option_or (first_found (cause_at (late_unwritable false)) (flat_map written_inside (written_forms c.definitions)))
+      (option_or (first_found (cause_at (late_unwritable true)) (flat_map written_whole (whole_forms c.definitions)))
       (first_found (cause_at (late_unwritable true)) (flat_map written_inside (dependencies_of define c))))
 
   -- the first cause but for sizes and for names that are alike

@@ -60,12 +60,12 @@ pub data Needs : List Used → List (Name × Stated) → Used → Type 0 where
   under_item : {us : List Used} {es : List (Name × Stated)} {v : Used} (n : Name) (x : Stated) → Among (n, x) es
       → has_items (kind_of x) ≡ true → Needs (uses_of x) (exports_of x) v → Needs us es v
 
--- an instance that is imported under that name has the item that the use takes, a resource with its tree
+-- an instance that is imported under that name has the item that the use takes, with its tree
 pub record IsImported (is : List (Name × Stated)) (n : Name) (u : Used) : Type 0 where
   pub interface : Stated
   pub there : value_at is n ≡ Some interface
   pub item : (x : Stated) → item_in u.interface u ≡ Some x
-      → (y : Stated) × (given_in interface u ≡ Some y) × (kind_of x ≡ IsResource → tree x ≡ tree y)
+      → (y : Stated) × (given_in interface u ≡ Some y) × (tree x ≡ tree y)
 
 abbrev pub type_exports : Stated → List (Name × Stated)
 type_exports x = filter (λ e. is_type (kind_of e.1)) (exports_of x)

@@ -179,11 +179,11 @@ below_items es = flat_map (λ e. e.1.1.uses) es
 abbrev pub all_needed : Parts Found → List Needed
 all_needed p = flat_map needs_of_use p.uses ++ (below_items p.imports ++ below_items p.exports)
 
--- what is used stands there, a resource as itself
+-- what is used stands there, as itself
 abbrev pub stands_as : Option Stated → Option Stated → Bool
 stands_as None o = true
 stands_as (Some x) None = false
-stands_as (Some x) (Some y) = not (is_resource (kind_of x)) || same_tree (tree x) (tree y)
+stands_as (Some x) (Some y) = same_tree (tree x) (tree y)
 
 abbrev pub is_given_by : Option (Stated × Found) → Used → Bool
 is_given_by None u = false

@@ -22,7 +22,7 @@ use Rattle.wac_types_base.proofs.Used.{drop_next}
 use Rattle.wac_types_written.specs.Forms.{ItemsStand, stated_items}
 use Rattle.wac_types_written.proofs.Growing.{items_kept}
 use Rattle.wac_composition.specs.Classes.{spelling}
-use Rattle.wac_composition.specs.Circles.{imports_inside, interfaces_written, written_inside}
+use Rattle.wac_composition.specs.Circles.{imports_inside, interfaces_written, written_inside, written_whole}
 use Rattle.wac_composition.specs.Conflicts.{Cause, cause_at, late_unwritable}
 use Rattle.wac_composition.proofs.Lists.{mapped_among}
 use Rattle.wac_graph_core.specs.Graph.{Graph}
@@ -135,12 +135,17 @@ module _ (c d : Collection) (g : Grows c d) where
       go (Some k) e = ap (λ y. (x.name, y) ∷ []) (stated_kept c d g k (stand k e))
 
   pub forms_more : (xs : List Definition) (i : ℕ) (x : Definition) → slice_get xs i ≡ Some x → ((k : ItemKind) → x.copy ≡ Some k → Stands c k)
-      → flat_map written_inside (forms_in c (take i xs)) ++ flat_map written_inside (forms_in d (x ∷ [])) ≡ flat_map written_inside (forms_in c (take (i + 1) xs))
+      → flat_map written_whole (forms_in c (take i xs)) ++ flat_map written_whole (forms_in d (x ∷ [])) ≡ flat_map written_whole (forms_in c (take (i + 1) xs))
   forms_more xs i x at stand =
-      ap (λ l. flat_map written_inside (forms_in c (take i xs)) ++ flat_map written_inside l) (form_kept x stand)
-      ∙ sym (flat_map-append written_inside (forms_in c (take i xs)) (forms_in c (x ∷ [])))
-      ∙ ap (flat_map written_inside) (sym (filter_map-append (form_in c) (take i xs) (x ∷ [])))
-      ∙ ap (λ l. flat_map written_inside (forms_in c l)) (sym (take-one_more xs i x at))
+      ap (λ l. flat_map written_whole (forms_in c (take i xs)) ++ flat_map written_whole l) (form_kept x stand)
+      ∙ sym (flat_map-append written_whole (forms_in c (take i xs)) (forms_in c (x ∷ [])))
+      ∙ ap (flat_map written_whole) (sym (filter_map-append (form_in c) (take i xs) (x ∷ [])))
+      ∙ ap (λ l. flat_map written_whole (forms_in c l)) (sym (take-one_more xs i x at))
+
+  -- a copy that stands still does
+  pub copy_kept : (o : Option ItemKind) → IfSome o (Stands c) → IfSome o (Stands d)
+  copy_kept None h = tt
+  copy_kept (Some k) h = g.stand k h
 
   pub packages_more : (h : Graph) (ps : List (PackageId × WorldId)) (id : PackageId) (w : WorldId) → Stands c (ItemKind.Component w)
       → flat_map written_inside (packages_in h c ps) ++ written_inside (package_in h d id w) ≡ flat_map written_inside (packages_in h c (ps ++ (id, w) ∷ []))

@@ -14,7 +14,7 @@ use Rattle.wac_graph_core.specs.declared.ids.PackageId.{PackageId}
 use Rattle.wac_graph_core.specs.Graph.{Graph}
 use Rattle.wac_composition.specs.Asks.{Ask}
 use Rattle.wac_composition.specs.Classes.{spelling}
-use Rattle.wac_composition.specs.Circles.{written_inside}
+use Rattle.wac_composition.specs.Circles.{written_inside, written_whole}
 use Rattle.wac_composition.specs.Conflicts.{Cause, late_unwritable, outers_written}
 use Rattle.wac_graph_scopes.specs.Parts.{imports_of}
 use Rattle.wac_writable.specs.declared.writable.Test.{Test}
@@ -38,7 +38,7 @@ under_name n l = record { name = n; item = l.item }
 abbrev pub form_in : Collection → Definition → Option (Name × Stated)
 form_in c d = option_map (λ k. (d.name, stated_of c k)) d.copy
 
--- definitions in the forms in which they are written; those without copies have no component types in them
+-- definitions in the forms in which they are written; those without copies are of no interface and of no world
 abbrev pub forms_in : Collection → List Definition → List (Name × Stated)
 forms_in c ds = filter_map (form_in c) ds
 
@@ -71,7 +71,7 @@ module _ (define : Bool) (g : Graph) where
       : Type 0 where
     pub outers : (asks : List (Ask ℕ)) → AreOuters asks old o.world o.called.items
         → AreLate new all.outers.items (held_outers asks old o.world)
-    pub definitions : AreLate new all.definitions.items (flat_map written_inside (forms_in old ds))
+    pub definitions : AreLate new all.definitions.items (flat_map written_whole (forms_in old ds))
     pub packages : AreLate new all.packages.items (flat_map written_inside (imported_packages define g old ps))
 
 -- ---- what is told
@@ -100,15 +100,15 @@ abbrev pub TellsLateAt : Test → Late → Unwritten → Type 0
 TellsLateAt t l e = TellsLate t (l ∷ []) e
 
 -- of these, as they are held
-abbrev pub PassLate : (outer : Bool) → Collection → List Late → Type 0
-PassLate outer c ls = (es : List (Name × Stated)) → AreLate c ls es → late_cause outer es ≡ None
+abbrev pub PassLate : Collection → List Late → Type 0
+PassLate c ls = (es : List (Name × Stated)) → AreLate c ls es → late_cause true es ≡ None
 
-abbrev pub TellsHeld : (outer : Bool) → Collection → List Late → Unwritten → Type 0
-TellsHeld outer c ls e = (es : List (Name × Stated)) → AreLate c ls es → TellsUnwritable (late_cause outer es) e
+abbrev pub TellsHeld : Collection → List Late → Unwritten → Type 0
+TellsHeld c ls e = (es : List (Name × Stated)) → AreLate c ls es → TellsUnwritable (late_cause true es) e
 
 -- the first of outer imports, definitions and packages
 abbrev pub first_late : (outers definitions packages : List (Name × Stated)) → Option (Cause ℕ)
-first_late os ds ps = option_or (late_cause true os) (option_or (late_cause false ds) (late_cause true ps))
+first_late os ds ps = option_or (late_cause true os) (option_or (late_cause true ds) (late_cause true ps))
 
 abbrev pub IfWritten : Collection → Written → ((os ds ps : List (Name × Stated)) → Type 0) → Type 0
 IfWritten c all P = (os ds ps : List (Name × Stated)) → AreLate c all.outers.items os → AreLate c all.definitions.items ds
@@ -125,7 +125,7 @@ TellsWritten c all e = IfWritten c all (λ os ds ps. TellsUnwritable (first_late
 module _ (define : Bool) (g : Graph) (c : Collection) (o : Outers) (ps : List (PackageId × WorldId)) (ds : List Definition) where
   abbrev pub held_circle : List (Ask ℕ) → Option (Cause ℕ)
   held_circle asks =
-      first_late (held_outers asks c o.world) (flat_map written_inside (forms_in c ds))
+      first_late (held_outers asks c o.world) (flat_map written_whole (forms_in c ds))
       (flat_map written_inside (imported_packages define g c ps))
 
   -- so it is of all asks whose outer imports these are

@@ -1,11 +1,11 @@
-//! Interfaces that could be written but for those that they use and that wait for them.
+//! What could be written but for what its parts use: interfaces that use one that waits for them, and definitions.
 
-ghost use Rattle.std.specs.Prelude.{◌≡◌, ◌∷◌, [], ◌++◌, map, IfOk, IfErr, OnOk};
+ghost use Rattle.std.specs.Prelude.{◌≡◌, ◌∷◌, [], ◌++◌, map, IfOk, IfErr, IfSome, OnOk};
 ghost use Rattle.std.specs.List.{flat_map};
-ghost use Rattle.wac_types_base.specs.Collection.{Grows};
+ghost use Rattle.wac_types_base.specs.Collection.{Grows, Stands};
 ghost use Rattle.wac_types_base.specs.Stated.{stated_of};
 ghost use Rattle.wac_types_written.specs.Forms.{ItemsStand, stated_items};
-ghost use Rattle.wac_composition.specs.Circles.{written_inside};
+ghost use Rattle.wac_composition.specs.Circles.{written_inside, written_whole};
 ghost use Rattle.wac_graph_scopes.specs.Parts.{imports_of};
 ghost use Rattle.wac_writable.specs.Unnamed.{KnowsAll};
 ghost use Rattle.wac_graph_asks.specs.AskedUses.{CopiesStand};
@@ -144,25 +144,58 @@ fn add_outers(
     add_all_inside(types, alloc, &imports, all)
 }
 
-/// Adds those that stand in a definition as it is written.
+/// Adds an item under a name.
+fn push_late(
+    alloc: Global,
+    name: &str,
+    item: ItemKind,
+    all: &mut Vec<Late>,
+) -> Result<(), AllocError>
+    ensures { OnOk result (all.new.items ≡ all.old.items ++ record { name = name.now; item = item } ∷ []) }
+{
+    let name = text_of(alloc, name)?;
+    all.push(Late { name, item })?;
+    Ok(())
+}
+
+/// Adds an item, and the interfaces that the component types import which stand in it, under its name.
+fn add_whole(
+    types: &mut Types,
+    alloc: Global,
+    name: &str,
+    item: ItemKind,
+    all: &mut Vec<Late>,
+) -> Result<(), AllocError>
+    requires { Stands types.old item }
+    ensures adds { OnOk result (AddsLate types.old types.new all.old.items all.new.items
+        (written_whole (name.now, stated_of types.old item))) }
+    ensures grows { Grows types.old types.new }
+{
+    types.see_acyclic();
+    push_late(alloc, name, item, all)?;
+    add_inside(types, alloc, name, item, all)
+}
+
+/// Adds a definition as it is written, and those that stand in it.
 fn add_form(
     types: &mut Types,
     alloc: Global,
     definition: &Definition,
     all: &mut Vec<Late>,
 ) -> Result<(), AllocError>
+    requires { IfSome definition.now.copy (Stands types.old) }
     ensures adds { OnOk result (AddsLate types.old types.new all.old.items all.new.items
-        (flat_map written_inside (forms_in types.old (definition.now ∷ [])))) }
+        (flat_map written_whole (forms_in types.old (definition.now ∷ [])))) }
     ensures grows { Grows types.old types.new }
 {
     types.see_acyclic();
     match definition.copy {
-        Some(item) => add_inside(types, alloc, definition.name.as_str(), item, all),
+        Some(item) => add_whole(types, alloc, definition.name.as_str(), item, all),
         None => Ok(()),
     }
 }
 
-/// Adds those that stand in definitions as they are written.
+/// Adds definitions as they are written, and those that stand in them.
 fn add_forms(
     types: &mut Types,
     alloc: Global,
@@ -171,7 +204,7 @@ fn add_forms(
 ) -> Result<(), AllocError>
     requires { CopiesStand types.old definitions.now }
     ensures adds { OnOk result (AddsLate types.old types.new all.old.items all.new.items
-        (flat_map written_inside (forms_in types.old definitions.now))) }
+        (flat_map written_whole (forms_in types.old definitions.now))) }
     ensures grows { Grows types.old types.new }
 {
     types.see_acyclic();
@@ -275,7 +308,7 @@ fn all_written(
 
 // ---- what cannot be written
 
-/// An interface can be written as it is.
+/// An item can be written as it is.
 fn check_one(test: Test<'_>, one: &Late) -> Result<(), Unwritten>
     ensures none { OnOk result (LatePasses test.entry one.now) }
     ensures cause { IfErr result (TellsLateAt test.entry one.now) }
@@ -291,7 +324,7 @@ fn check_one(test: Test<'_>, one: &Late) -> Result<(), Unwritten>
     Ok(())
 }
 
-/// Each of these interfaces can.
+/// Each of these items can.
 fn check_each(test: Test<'_>, late: &[Late]) -> Result<(), Unwritten>
     ensures none { OnOk result (LatePass test.entry late.now) }
     ensures cause { IfErr result (TellsLate test.entry late.now) }
@@ -302,22 +335,21 @@ fn check_each(test: Test<'_>, late: &[Late]) -> Result<(), Unwritten>
     Ok(())
 }
 
-/// Each of these interfaces can be written as it is.
+/// Each of these items can be written as it is, where all that it uses is imported.
 fn check_late(
     alloc: Global,
     types: &Types,
     unnamed: &Unnamed,
     late: &[Late],
-    is_outer: bool,
 ) -> Result<(), Unwritten>
-    ensures none { OnOk result (KnowsAll types.now unnamed.now → PassLate is_outer types.now late.now) }
-    ensures cause { IfErr result (λ e. KnowsAll types.now unnamed.now → TellsHeld is_outer types.now late.now e) }
+    ensures none { OnOk result (KnowsAll types.now unnamed.now → PassLate types.now late.now) }
+    ensures cause { IfErr result (λ e. KnowsAll types.now unnamed.now → TellsHeld types.now late.now e) }
 {
     let test = Test {
         alloc,
         types,
         unnamed,
-        is_outer,
+        is_outer: true,
     };
     check_each(test, late)
 }
@@ -328,13 +360,13 @@ fn check_written(alloc: Global, types: &Types, all: &Written) -> Result<(), Unwr
     ensures cause { IfErr result (TellsWritten types.now all.now) }
 {
     let unnamed = Unnamed::all(alloc, types)?;
-    check_late(alloc, types, &unnamed, &all.outers, true)?;
-    check_late(alloc, types, &unnamed, &all.definitions, false)?;
-    check_late(alloc, types, &unnamed, &all.packages, true)
+    check_late(alloc, types, &unnamed, &all.outers)?;
+    check_late(alloc, types, &unnamed, &all.definitions)?;
+    check_late(alloc, types, &unnamed, &all.packages)
 }
 
-/// Each interface that is imported can be written as it is, beside those alone that do not wait for it. Definitions are in
-/// the forms in which they are written.
+/// Each interface that is imported can be written as it is, beside those alone that do not wait for it, and each definition in
+/// the form in which it is written, where all that it uses is imported.
 pub fn check_circles(
     types: &mut Types,
     graph: &CompositionGraph,

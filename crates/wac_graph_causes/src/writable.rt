@@ -29,7 +29,7 @@ pub(crate) fn unwritable(alloc: Global, name: &str) -> Unwritten
 {
     match String::from_str(alloc, name) {
         Ok(name) => Unwritten::TypeCannotBeWritten { name },
-        Err(_) => Unwritten::Memory,
+        Err(AllocError) => Unwritten::Memory,
     }
 }
 

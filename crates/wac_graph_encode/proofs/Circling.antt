@@ -1,7 +1,7 @@
 -- What is held of interfaces that wait for one another is what the composition says of them.
-use Rattle.std.specs.Prelude.{option_map}
+use Rattle.std.specs.Prelude.{option_map, if◌then◌else◌}
 use Rattle.std.specs.List.{cons_option, flat_map}
-use Rattle.std.proofs.Common.{◌≡◌, Bool, true, false, true≢false, List, [], ◌∷◌, ◌++◌, map, Option, Some, None, refl, sym, ap, subst, ◌∙◌, inl, inr}
+use Rattle.std.proofs.Common.{◌≡◌, Bool, true, false, List, [], ◌∷◌, map, Option, Some, None, refl, sym, ap, subst, ◌∙◌, inl, inr}
 use Rattle.wac_types_base.specs.declared.ids.WorldId.{WorldId}
 use Rattle.wac_types_base.specs.declared.item.ItemKind.{ItemKind}
 use Rattle.wac_types_base.specs.declared.item.«Type».{«Type» as TypeKind}
@@ -9,20 +9,18 @@ use Rattle.wac_types_base.specs.Record.{Collection}
 use Rattle.wac_types_base.specs.Collection.{Stands, IsAcyclic, Grows}
 use Rattle.wac_types_base.specs.Entries.{Name, names_of}
 use Rattle.wac_types_base.specs.Graph.{Among}
-use Rattle.wac_types_base.specs.Stated.{Stated, stated_in, stated_of, stated_world, identifier_of}
-use Rattle.wac_types_base.proofs.Telling.{kind_stated}
-use Rattle.wac_types_written.specs.Written.{component_type, written, written_by, written_definition}
-use Rattle.wac_types_written.proofs.Ids.{other_formed}
+use Rattle.wac_types_base.specs.Stated.{Stated, stated_in, stated_of, stated_world, kind_of}
+use Rattle.wac_types_written.specs.Written.{written_definition}
 use Rattle.wac_graph_core.specs.declared.ids.PackageId.{PackageId}
 use Rattle.wac_graph_core.specs.Graph.{Graph, IsGraph, package_of}
 use Rattle.wac_composition.specs.Asks.{asks_of}
-use Rattle.wac_composition.specs.Circles.{imports_inside, interfaces_written, written_inside}
+use Rattle.wac_composition.specs.Circles.{written_inside, written_whole}
 use Rattle.wac_composition.specs.Classes.{spelling}
-use Rattle.wac_composition.specs.Conflicts.{dependencies_of, outers_written, written_forms}
+use Rattle.wac_composition.specs.Conflicts.{dependencies_of, is_whole, outers_written, whole_forms}
 use Rattle.wac_graph_asks.specs.declared.asks.Asked.{Asked}
 use Rattle.wac_graph_asks.specs.declared.asks.Definition.{Definition}
 use Rattle.wac_graph_asks.specs.declared.outers.Outers.{Outers}
-use Rattle.wac_graph_asks.specs.Asked.{IsWorldOf, placed_in, uses_others}
+use Rattle.wac_graph_asks.specs.Asked.{IsWorldOf, placed_in}
 use Rattle.wac_graph_asks.specs.Graphs.{composition_of}
 use Rattle.wac_graph_asks.specs.Outers.{AreOuters}
 use Rattle.wac_graph_asks.proofs.Asking.{world_kept}
@@ -30,57 +28,39 @@ use Rattle.wac_graph_asks.proofs.Lasting.{outers_stay}
 use Rattle.wac_graph_causes.specs.declared.errors.Unwritten.{Unwritten}
 use Rattle.wac_graph_causes.specs.Circling.{CirclesPass, PackagesStand, TellsCircle, first_late, forms_in, held_circle, packages_in, imported_packages}
 use Rattle.wac_graph_causes.specs.Unwritable.{TellsUnwritable, dependency_at, package_world}
-use Rattle.wac_graph_causes.proofs.CircleLaws.{named}
 use Rattle.wac_graph_causes.proofs.Dependencies.{packages_listed}
-use Rattle.wac_graph_causes.proofs.WorldsInside.{other_inside}
 use Rattle.wac_graph_encode.specs.declared.options.EncodeOptions.{EncodeOptions}
 use Rattle.wac_graph_encode.specs.Finished.{IsPrepared}
 use Rattle.wac_graph_encode.specs.Formed.{AreFormed, HasForm, IsFormed}
+use Rattle.wac_graph_encode.proofs.FormKinds.{plain_kind, whole_form}
 use Rattle.wac_graph_encode.specs.Refused.{waiting_cause}
 
-module _ (g : Graph) (acyclic : IsAcyclic g.types) where
-  -- a type of no interface and of no world is written as it is, and no component type stands in it
-  plain_form : (t : TypeKind) → uses_others t ≡ false → Stands g.types (ItemKind.Ty t) → imports_inside (written_definition (stated_of g.types (ItemKind.Ty t))) ≡ []
-  plain_form (TypeKind.Resource r) e s =
-      let x = stated_of g.types (ItemKind.Ty (TypeKind.Resource r)) in
-      ap (λ k. imports_inside (written_by k (identifier_of x) (written x))) (kind_stated g.types acyclic (ItemKind.Ty (TypeKind.Resource r)) s)
-      ∙ ap imports_inside (other_formed g.types acyclic component_type (ItemKind.Ty (TypeKind.Resource r)) s tt) ∙ other_inside g.types acyclic (ItemKind.Ty (TypeKind.Resource r)) s tt
-  plain_form (TypeKind.Func f) e s =
-      let x = stated_of g.types (ItemKind.Ty (TypeKind.Func f)) in
-      ap (λ k. imports_inside (written_by k (identifier_of x) (written x))) (kind_stated g.types acyclic (ItemKind.Ty (TypeKind.Func f)) s)
-      ∙ ap imports_inside (other_formed g.types acyclic component_type (ItemKind.Ty (TypeKind.Func f)) s tt) ∙ other_inside g.types acyclic (ItemKind.Ty (TypeKind.Func f)) s tt
-  plain_form (TypeKind.Value v) e s =
-      let x = stated_of g.types (ItemKind.Ty (TypeKind.Value v)) in
-      ap (λ k. imports_inside (written_by k (identifier_of x) (written x))) (kind_stated g.types acyclic (ItemKind.Ty (TypeKind.Value v)) s)
-      ∙ ap imports_inside (other_formed g.types acyclic component_type (ItemKind.Ty (TypeKind.Value v)) s tt) ∙ other_inside g.types acyclic (ItemKind.Ty (TypeKind.Value v)) s tt
-  plain_form (TypeKind.Module m) e s =
-      let x = stated_of g.types (ItemKind.Ty (TypeKind.Module m)) in
-      ap (λ k. imports_inside (written_by k (identifier_of x) (written x))) (kind_stated g.types acyclic (ItemKind.Ty (TypeKind.Module m)) s)
-      ∙ ap imports_inside (other_formed g.types acyclic component_type (ItemKind.Ty (TypeKind.Module m)) s tt) ∙ other_inside g.types acyclic (ItemKind.Ty (TypeKind.Module m)) s tt
-  plain_form (TypeKind.Interface i) e s = absurd (true≢false e)
-  plain_form (TypeKind.World w) e s = absurd (true≢false e)
+-- ---- definitions
 
-  -- ---- definitions
+module _ (g : Graph) (acyclic : IsAcyclic g.types) (c : Collection) where
+  abbrev form_at : TypeKind → Stated
+  form_at t = written_definition (stated_of g.types (ItemKind.Ty t))
 
-  module _ (c : Collection) where
-    form_is : (x y : Definition) → IsFormed g.types c x y → (rest : List (Name × Stated)) → (q : Option ItemKind) → y.copy ≡ q
-        → flat_map written_inside (cons_option (option_map (λ k. (y.name, stated_of c k)) q) rest) ≡ written_inside (x.name, written_definition (stated_of g.types (ItemKind.Ty x.ty))) ++ flat_map written_inside rest
-    form_is x y f rest (Some k) e =
-        let form = subst (HasForm g.types c y.ty) e f.form in
-        (λ i. written_inside (f.name i, (form.1.states ∙ ap (λ t. written_definition (stated_of g.types (ItemKind.Ty t))) f.ty) i) ++ flat_map written_inside rest)
-    form_is x y f rest None e =
-        let form = subst (HasForm g.types c y.ty) e f.form in
-        let none = plain_form y.ty form.0 form.1 in
-        let same : imports_inside (written_definition (stated_of g.types (ItemKind.Ty x.ty))) ≡ [] = ap (λ t. imports_inside (written_definition (stated_of g.types (ItemKind.Ty t)))) (sym f.ty) ∙ none in
-        ap (λ is. map (named x.name) (flat_map (interfaces_written (λ n. n)) is) ++ flat_map written_inside rest) (sym same)
+  abbrev kept_if : Bool → Definition → List (Name × Stated) → List (Name × Stated)
+  kept_if b x rest = if b then (x.name, form_at x.ty) ∷ rest else rest
 
-    forms_are : (xs ys : List Definition) → AreFormed g.types c xs ys → flat_map written_inside (forms_in c ys) ≡ flat_map written_inside (written_forms (map (placed_in g.types) xs))
-    forms_are [] [] f = refl
-    forms_are [] (y ∷ ys) f = absurd f
-    forms_are (x ∷ xs) [] f = absurd f
-    forms_are (x ∷ xs) (y ∷ ys) f =
-        form_is x y f.0 (forms_in c ys) y.copy refl
-        ∙ ap (λ l. written_inside (x.name, written_definition (stated_of g.types (ItemKind.Ty x.ty))) ++ l) (forms_are xs ys f.1)
+  form_is : (x y : Definition) → IsFormed g.types c x y → (rest : List (Name × Stated)) → (q : Option ItemKind) → y.copy ≡ q
+      → cons_option (option_map (λ k. (y.name, stated_of c k)) q) rest ≡ kept_if (is_whole (kind_of (form_at x.ty))) x rest
+  form_is x y f rest (Some k) e =
+      let form = subst (HasForm g.types c y.ty) e f.form in
+      let whole : is_whole (kind_of (form_at x.ty)) ≡ true = ap (λ t. is_whole (kind_of (form_at t))) (sym f.ty) ∙ whole_form g.types acyclic y.ty form.2 form.0 in
+      (λ i. (f.name i, (form.1.states ∙ ap form_at f.ty) i) ∷ rest) ∙ sym (ap (λ b. kept_if b x rest) whole)
+  form_is x y f rest None e =
+      let form = subst (HasForm g.types c y.ty) e f.form in
+      let plain : is_whole (kind_of (form_at x.ty)) ≡ false = ap (λ t. is_whole (kind_of (form_at t))) (sym f.ty) ∙ plain_kind g.types acyclic y.ty form.1 form.0 in
+      sym (ap (λ b. kept_if b x rest) plain)
+
+  forms_are : (xs ys : List Definition) → AreFormed g.types c xs ys → forms_in c ys ≡ whole_forms (map (placed_in g.types) xs)
+  forms_are [] [] f = refl
+  forms_are [] (y ∷ ys) f = absurd f
+  forms_are (x ∷ xs) [] f = absurd f
+  forms_are (x ∷ xs) (y ∷ ys) f =
+      form_is x y f.0 (forms_in c ys) y.copy refl ∙ ap (λ l. kept_if (is_whole (kind_of (form_at x.ty))) x l) (forms_are xs ys f.1)
 
 -- ---- packages
 
@@ -113,7 +93,7 @@ module _ (g : Graph) (sound : IsGraph g) (acyclic : IsAcyclic g.types) (a : Aske
 
     held_is : held_circle options.define_components g c o a.packages.entries ds (asks_of (composition_of g)) ≡ waiting_cause options g
     held_is =
-        let definitions = forms_are g acyclic c a.definitions.items ds formed ∙ ap (λ l. flat_map written_inside (written_forms l)) h.definitions in
+        let definitions = ap (flat_map written_whole) (forms_are g acyclic c a.definitions.items ds formed ∙ ap whole_forms h.definitions) in
         λ i. first_late (outers_written (spelling (asks_of (composition_of g))) (held.imports i)) (definitions i) (flat_map written_inside (unless_defined options.define_components i))
 
     pub waits_not : CirclesPass options.define_components g c o a.packages.entries ds → waiting_cause options g ≡ None

@@ -8,6 +8,7 @@ use Rattle.wac_types_base.specs.Entries.{Name}
 use Rattle.wac_types_base.specs.Collection.{Shape, primitive, tuple, list, fixed_size_list, option, result, variant, record_of, flags, enum, alias, stream, future, resource, resource_alias, func, interface, world, module_type, type_of, borrow_of, own_of, Stands, IsAcyclic}
 use Rattle.wac_types_base.specs.Stated.{Stated, Kind, IsFunction, IsInstance, IsComponent, IsModule, IsValue, IsResource, IsFunctionType, IsValueType, IsInterface, IsWorld, IsModuleType, shape_kind, kind_of, stated_of, identifier_of}
 use Rattle.wac_types_base.proofs.Telling.{item_kind, kind_stated}
+use Rattle.wac_composition.specs.Conflicts.{is_whole}
 use Rattle.wac_types_written.specs.Written.{written, written_by, written_definition}
 use Rattle.wac_types_written.proofs.Shapes.{IsPlain, plain_same}
 use Rattle.wac_graph_scopes.specs.Items.{HasEntry}
@@ -15,14 +16,14 @@ use Rattle.wac_graph_asks.specs.Asked.{uses_others}
 
 -- ---- what is neither an interface nor a world is written as it is
 
-abbrev is_whole : Kind → Bool
-is_whole IsInstance = true
-is_whole IsComponent = true
-is_whole IsInterface = true
-is_whole IsWorld = true
-is_whole k = false
+abbrev has_parts : Kind → Bool
+has_parts IsInstance = true
+has_parts IsComponent = true
+has_parts IsInterface = true
+has_parts IsWorld = true
+has_parts k = false
 
-typed_plain : (s : Shape) → is_whole (shape_kind (type_of s)) ≡ false → IsPlain (type_of s)
+typed_plain : (s : Shape) → has_parts (shape_kind (type_of s)) ≡ false → IsPlain (type_of s)
 typed_plain (primitive p) e = tt
 typed_plain tuple e = tt
 typed_plain list e = tt
@@ -46,7 +47,7 @@ typed_plain (type_of s) e = tt
 typed_plain (interface i us es) e = absurd (true≢false e)
 typed_plain (world i us is es) e = absurd (true≢false e)
 
-shape_plain : (s : Shape) → is_whole (shape_kind s) ≡ false → IsPlain s
+shape_plain : (s : Shape) → has_parts (shape_kind s) ≡ false → IsPlain s
 shape_plain (primitive p) e = tt
 shape_plain tuple e = tt
 shape_plain list e = tt
@@ -70,7 +71,7 @@ shape_plain (type_of s) e = typed_plain s e
 shape_plain (interface i us es) e = absurd (true≢false e)
 shape_plain (world i us is es) e = absurd (true≢false e)
 
-as_it_is : (k : Kind) (i : Option Name) (x : Stated) → is_whole k ≡ false → written_by k i x ≡ x
+as_it_is : (k : Kind) (i : Option Name) (x : Stated) → has_parts k ≡ false → written_by k i x ≡ x
 as_it_is IsFunction i x e = refl
 as_it_is IsInstance i x e = absurd (true≢false e)
 as_it_is IsComponent i x e = absurd (true≢false e)
@@ -83,10 +84,10 @@ as_it_is IsInterface i x e = absurd (true≢false e)
 as_it_is IsWorld i x e = absurd (true≢false e)
 as_it_is IsModuleType i x e = refl
 
-plain_form : (x : Stated) → is_whole (kind_of x) ≡ false → written_definition x ≡ x
+plain_form : (x : Stated) → has_parts (kind_of x) ≡ false → written_definition x ≡ x
 plain_form (node s ts) e = as_it_is (shape_kind s) (identifier_of (node s ts)) (written (node s ts)) e ∙ plain_same s ts (shape_plain s e)
 
-not_whole : (t : TypeKind) → uses_others t ≡ false → is_whole (item_kind (ItemKind.Ty t)) ≡ false
+not_whole : (t : TypeKind) → uses_others t ≡ false → has_parts (item_kind (ItemKind.Ty t)) ≡ false
 not_whole (TypeKind.Resource r) e = refl
 not_whole (TypeKind.Func f) e = refl
 not_whole (TypeKind.Value v) e = refl
@@ -96,77 +97,31 @@ not_whole (TypeKind.Module m) e = refl
 
 -- a type without form is its own
 pub own_form : (c : Collection) → IsAcyclic c → (t : TypeKind) → Stands c (ItemKind.Ty t) → uses_others t ≡ false → written_definition (stated_of c (ItemKind.Ty t)) ≡ stated_of c (ItemKind.Ty t)
-own_form c acyclic t stands e = plain_form (stated_of c (ItemKind.Ty t)) (ap is_whole (kind_stated c acyclic (ItemKind.Ty t) stands) ∙ not_whole t e)
+own_form c acyclic t stands e = plain_form (stated_of c (ItemKind.Ty t)) (ap has_parts (kind_stated c acyclic (ItemKind.Ty t) stands) ∙ not_whole t e)
 
 -- ---- the form of an interface or a world is one
 
-abbrev pub is_declared : Kind → Bool
-is_declared IsInterface = true
-is_declared IsWorld = true
-is_declared k = false
+unused_plain : (t : TypeKind) → uses_others t ≡ false → is_whole (item_kind (ItemKind.Ty t)) ≡ false
+unused_plain (TypeKind.Resource r) e = refl
+unused_plain (TypeKind.Func f) e = refl
+unused_plain (TypeKind.Value v) e = refl
+unused_plain (TypeKind.Module m) e = refl
+unused_plain (TypeKind.Interface i) e = absurd (true≢false e)
+unused_plain (TypeKind.World w) e = absurd (true≢false e)
 
-declared_typed : (s : Shape) (ts : Wholes Shape) → is_declared (shape_kind (type_of s)) ≡ true → is_declared (kind_of (written_definition (node (type_of s) ts))) ≡ true
-declared_typed (interface None us es) ts e = refl
-declared_typed (interface (Some n) us es) ts e = refl
-declared_typed (world None us is es) ts e = refl
-declared_typed (world (Some n) us is es) ts e = refl
-declared_typed (primitive p) ts e = absurd (true≢false (sym e))
-declared_typed tuple ts e = absurd (true≢false (sym e))
-declared_typed list ts e = absurd (true≢false (sym e))
-declared_typed (fixed_size_list n) ts e = absurd (true≢false (sym e))
-declared_typed option ts e = absurd (true≢false (sym e))
-declared_typed result ts e = absurd (true≢false (sym e))
-declared_typed (variant ns) ts e = absurd (true≢false (sym e))
-declared_typed (record_of ns) ts e = absurd (true≢false (sym e))
-declared_typed (flags ns) ts e = absurd (true≢false (sym e))
-declared_typed (enum ns) ts e = absurd (true≢false (sym e))
-declared_typed alias ts e = absurd (true≢false (sym e))
-declared_typed stream ts e = absurd (true≢false (sym e))
-declared_typed future ts e = absurd (true≢false (sym e))
-declared_typed (resource n) ts e = absurd (true≢false (sym e))
-declared_typed (resource_alias n) ts e = absurd (true≢false (sym e))
-declared_typed (func ps a) ts e = absurd (true≢false (sym e))
-declared_typed (module_type m) ts e = absurd (true≢false (sym e))
-declared_typed (borrow_of s) ts e = absurd (true≢false (sym e))
-declared_typed (own_of s) ts e = absurd (true≢false (sym e))
-declared_typed (type_of s) ts e = absurd (true≢false (sym e))
+pub plain_kind : (c : Collection) → IsAcyclic c → (t : TypeKind) → Stands c (ItemKind.Ty t) → uses_others t ≡ false → is_whole (kind_of (written_definition (stated_of c (ItemKind.Ty t)))) ≡ false
+plain_kind c a t stands e =
+    ap (λ x. is_whole (kind_of x)) (own_form c a t stands e) ∙ ap is_whole (kind_stated c a (ItemKind.Ty t) stands) ∙ unused_plain t e
 
-declared_form : (s : Shape) (ts : Wholes Shape) → is_declared (shape_kind s) ≡ true → is_declared (kind_of (written_definition (node s ts))) ≡ true
-declared_form (type_of s) ts e = declared_typed s ts e
-declared_form (primitive p) ts e = absurd (true≢false (sym e))
-declared_form tuple ts e = absurd (true≢false (sym e))
-declared_form list ts e = absurd (true≢false (sym e))
-declared_form (fixed_size_list n) ts e = absurd (true≢false (sym e))
-declared_form option ts e = absurd (true≢false (sym e))
-declared_form result ts e = absurd (true≢false (sym e))
-declared_form (variant ns) ts e = absurd (true≢false (sym e))
-declared_form (record_of ns) ts e = absurd (true≢false (sym e))
-declared_form (flags ns) ts e = absurd (true≢false (sym e))
-declared_form (enum ns) ts e = absurd (true≢false (sym e))
-declared_form alias ts e = absurd (true≢false (sym e))
-declared_form stream ts e = absurd (true≢false (sym e))
-declared_form future ts e = absurd (true≢false (sym e))
-declared_form (resource n) ts e = absurd (true≢false (sym e))
-declared_form (resource_alias n) ts e = absurd (true≢false (sym e))
-declared_form (func ps a) ts e = absurd (true≢false (sym e))
-declared_form (interface i us es) ts e = absurd (true≢false (sym e))
-declared_form (world i us is es) ts e = absurd (true≢false (sym e))
-declared_form (module_type m) ts e = absurd (true≢false (sym e))
-declared_form (borrow_of s) ts e = absurd (true≢false (sym e))
-declared_form (own_of s) ts e = absurd (true≢false (sym e))
+used_whole : (t : TypeKind) → uses_others t ≡ true → is_whole (item_kind (ItemKind.Ty t)) ≡ true
+used_whole (TypeKind.Interface i) e = refl
+used_whole (TypeKind.World w) e = refl
+used_whole (TypeKind.Resource r) e = absurd (true≢false (sym e))
+used_whole (TypeKind.Func f) e = absurd (true≢false (sym e))
+used_whole (TypeKind.Value v) e = absurd (true≢false (sym e))
+used_whole (TypeKind.Module m) e = absurd (true≢false (sym e))
 
-declared_stated : (x : Stated) → is_declared (kind_of x) ≡ true → is_declared (kind_of (written_definition x)) ≡ true
-declared_stated (node s ts) e = declared_form s ts e
-
-used_declared : (t : TypeKind) → uses_others t ≡ true → is_declared (item_kind (ItemKind.Ty t)) ≡ true
-used_declared (TypeKind.Interface i) e = refl
-used_declared (TypeKind.World w) e = refl
-used_declared (TypeKind.Resource r) e = absurd (true≢false (sym e))
-used_declared (TypeKind.Func f) e = absurd (true≢false (sym e))
-used_declared (TypeKind.Value v) e = absurd (true≢false (sym e))
-used_declared (TypeKind.Module m) e = absurd (true≢false (sym e))
-
-entry_kind : (k : ItemKind) → is_declared (item_kind k) ≡ true → HasEntry k
+entry_kind : (k : ItemKind) → is_whole (item_kind k) ≡ true → HasEntry k
 entry_kind (ItemKind.Ty (TypeKind.Interface i)) e = tt
 entry_kind (ItemKind.Ty (TypeKind.World w)) e = tt
 entry_kind (ItemKind.Ty (TypeKind.Resource r)) e = absurd (true≢false (sym e))
@@ -179,9 +134,12 @@ entry_kind (ItemKind.Component w) e = absurd (true≢false (sym e))
 entry_kind (ItemKind.Module m) e = absurd (true≢false (sym e))
 entry_kind (ItemKind.Value v) e = absurd (true≢false (sym e))
 
+pub whole_form : (c : Collection) → IsAcyclic c → (t : TypeKind) → Stands c (ItemKind.Ty t) → uses_others t ≡ true → is_whole (kind_of (written_definition (stated_of c (ItemKind.Ty t)))) ≡ true
+whole_form c a t stands e = whole_stated (stated_of c (ItemKind.Ty t)) (ap is_whole (kind_stated c a (ItemKind.Ty t) stands) ∙ used_whole t e)
+
 -- the form of an interface or a world is written as an entry
 pub form_entry : (c d : Collection) → IsAcyclic c → IsAcyclic d → (t : TypeKind) → Stands c (ItemKind.Ty t) → uses_others t ≡ true → (k : ItemKind) → Stands d k → stated_of d k ≡ written_definition (stated_of c (ItemKind.Ty t)) → HasEntry k
 form_entry c d a b t stands e k there is =
     entry_kind k
-    (ap is_declared (sym (kind_stated d b k there)) ∙ ap (λ x. is_declared (kind_of x)) is
-    ∙ declared_stated (stated_of c (ItemKind.Ty t)) (ap is_declared (kind_stated c a (ItemKind.Ty t) stands) ∙ used_declared t e))
+    (ap is_whole (sym (kind_stated d b k there)) ∙ ap (λ x. is_whole (kind_of x)) is
+    ∙ whole_stated (stated_of c (ItemKind.Ty t)) (ap is_whole (kind_stated c a (ItemKind.Ty t) stands) ∙ used_whole t e))

@@ -82,8 +82,8 @@ impl TypeText<'_> {
     }
 
     fn keep(&mut self, function: String, functions: &mut Vec<String>) {
-        if functions.push(function).is_err() {
-            self.fail(ReadError::Memory);
+        if let Err(refusal) = functions.push(function) {
+            self.fail(ReadError::from(refusal));
         }
     }
 

@@ -4,40 +4,42 @@ use super::types::text_if;
 use super::{
     Custom, Import, Inner, Instance, Item, Made, ReadError, Reading, Root, Source, WholeReading,
 };
-use std::alloc::Global;
+use std::alloc::{AllocError, Global};
 
 /// A text while it is written. Where memory ran out, [`Text::finish`] says so.
 #[derive(Drop)]
 pub struct Text {
+    alloc: Global,
     text: String,
-    is_cut: bool,
+    refusal: Option<AllocError>,
 }
 
 impl Text {
     pub fn new(alloc: Global) -> Self {
         Text {
+            alloc,
             text: String::new(alloc),
-            is_cut: false,
+            refusal: None,
         }
     }
 
     pub fn push(&mut self, part: &str) {
-        if self.text.push_str(part).is_err() {
-            self.is_cut = true;
+        if let Err(refusal) = self.text.push_str(part) {
+            self.refusal = Some(refusal);
         }
     }
 
     pub fn push_number(&mut self, number: usize) {
-        if write!(self.text, "{number}").is_err() {
-            self.is_cut = true;
+        match number.to_string(self.alloc) {
+            Ok(digits) => self.push(digits.as_str()),
+            Err(refusal) => self.refusal = Some(refusal),
         }
     }
 
     pub fn finish(self) -> Result<String, ReadError> {
-        if self.is_cut {
-            Err(ReadError::Memory)
-        } else {
-            Ok(self.text)
+        match self.refusal {
+            Some(refusal) => Err(ReadError::from(refusal)),
+            None => Ok(self.text),
         }
     }
 }

@@ -9,6 +9,7 @@ use std::alloc::Global;
 #[derive(Drop)]
 pub struct TypeText<'a> {
     pub cursor: Cursor<'a>,
+    alloc: Global,
     text: String,
     fault: Option<ReadError>,
 }
@@ -17,6 +18,7 @@ impl<'a> TypeText<'a> {
     pub fn new(alloc: Global, cursor: Cursor<'a>) -> Self {
         TypeText {
             cursor,
+            alloc,
             text: String::new(alloc),
             fault: None,
         }
@@ -48,14 +50,15 @@ impl<'a> TypeText<'a> {
     }
 
     pub fn push(&mut self, part: &str) {
-        if self.text.push_str(part).is_err() {
-            self.fail(ReadError::Memory);
+        if let Err(refusal) = self.text.push_str(part) {
+            self.fail(ReadError::from(refusal));
         }
     }
 
     pub fn push_number(&mut self, number: u64) {
-        if write!(self.text, "{number}").is_err() {
-            self.fail(ReadError::Memory);
+        match number.to_string(self.alloc) {
+            Ok(digits) => self.push(digits.as_str()),
+            Err(refusal) => self.fail(ReadError::from(refusal)),
         }
     }
 

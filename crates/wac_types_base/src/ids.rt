@@ -10,6 +10,11 @@ pub struct DefinedTypeId {
 }
 
 impl fmt::Display for DefinedTypeId {
+    ghost use Rattle.std.specs.Prelude.{Some};
+    ghost use Rattle.std.specs.Fmt.{decimal};
+
+    ghost output = { λ id. Some (decimal id.index) };
+
     fn fmt<W: fmt::Write>(&self, f: &mut fmt::Formatter<W>) -> fmt::Result {
         fmt::Display::fmt(&self.index, f)
     }
@@ -23,6 +28,11 @@ pub struct ResourceId {
 }
 
 impl fmt::Display for ResourceId {
+    ghost use Rattle.std.specs.Prelude.{Some};
+    ghost use Rattle.std.specs.Fmt.{decimal};
+
+    ghost output = { λ id. Some (decimal id.index) };
+
     fn fmt<W: fmt::Write>(&self, f: &mut fmt::Formatter<W>) -> fmt::Result {
         fmt::Display::fmt(&self.index, f)
     }
@@ -36,6 +46,11 @@ pub struct FuncTypeId {
 }
 
 impl fmt::Display for FuncTypeId {
+    ghost use Rattle.std.specs.Prelude.{Some};
+    ghost use Rattle.std.specs.Fmt.{decimal};
+
+    ghost output = { λ id. Some (decimal id.index) };
+
     fn fmt<W: fmt::Write>(&self, f: &mut fmt::Formatter<W>) -> fmt::Result {
         fmt::Display::fmt(&self.index, f)
     }
@@ -49,6 +64,11 @@ pub struct InterfaceId {
 }
 
 impl fmt::Display for InterfaceId {
+    ghost use Rattle.std.specs.Prelude.{Some};
+    ghost use Rattle.std.specs.Fmt.{decimal};
+
+    ghost output = { λ id. Some (decimal id.index) };
+
     fn fmt<W: fmt::Write>(&self, f: &mut fmt::Formatter<W>) -> fmt::Result {
         fmt::Display::fmt(&self.index, f)
     }
@@ -62,6 +82,11 @@ pub struct WorldId {
 }
 
 impl fmt::Display for WorldId {
+    ghost use Rattle.std.specs.Prelude.{Some};
+    ghost use Rattle.std.specs.Fmt.{decimal};
+
+    ghost output = { λ id. Some (decimal id.index) };
+
     fn fmt<W: fmt::Write>(&self, f: &mut fmt::Formatter<W>) -> fmt::Result {
         fmt::Display::fmt(&self.index, f)
     }
@@ -75,6 +100,11 @@ pub struct ModuleTypeId {
 }
 
 impl fmt::Display for ModuleTypeId {
+    ghost use Rattle.std.specs.Prelude.{Some};
+    ghost use Rattle.std.specs.Fmt.{decimal};
+
+    ghost output = { λ id. Some (decimal id.index) };
+
     fn fmt<W: fmt::Write>(&self, f: &mut fmt::Formatter<W>) -> fmt::Result {
         fmt::Display::fmt(&self.index, f)
     }

@@ -9,7 +9,7 @@ use crate::defined::{UsedType, World};
 use crate::item::ItemKind;
 use crate::types::Types;
 use indexmap::IndexMap;
-use std::alloc::Global;
+use std::alloc::{AllocFailed, Global};
 use std::error::Error;
 use std::fmt;
 
@@ -50,7 +50,7 @@ fn add_used<'a>(
             None => return Err(TargetError::UsedWithoutIdentifier),
             Some(id) => match found.insert(id.as_str(), ItemKind::Instance(used.interface)) {
                 Ok(_) => {}
-                Err(_) => return Err(TargetError::Memory),
+                Err(AllocFailed { .. }) => return Err(TargetError::Memory),
             },
         }
     }

@@ -10,6 +10,7 @@ pub mod desc;
 pub mod ids;
 pub mod implicit;
 pub mod item;
+pub mod laws;
 mod remap;
 pub mod renumber;
 pub mod replace;
@@ -31,6 +32,7 @@ pub use defined::{
 pub use ids::{DefinedTypeId, FuncTypeId, InterfaceId, ModuleTypeId, ResourceId, WorldId};
 pub use implicit::TargetError;
 pub use item::{ExternKind, FuncKind, ItemKind, PrimitiveType, Type, ValueType};
+pub use laws::unfoldings_are_related;
 pub use replace::CycleError;
 pub use types::Types;
 pub use types_mut::TypesMut;

@@ -14,7 +14,7 @@ use crate::cache::{Cache, knows, remember};
 use crate::core_items::modules_fit;
 use crate::errors::{SubtypeError, mismatch, within};
 use crate::values::{same_funcs, same_resources, same_values};
-use std::alloc::Global;
+use std::alloc::{AllocError, Global};
 use wac_types_base::{ExternKind, InterfaceId, ItemKind, NamedMap, Type, Types, WorldId};
 
 /// A collection whose items are given and one whose items are asked. Turned, the given ones are those that a refusal calls
@@ -112,7 +112,7 @@ pub(crate) fn fits(
     unfolded(sides, alloc, cache, a, b)?;
     match remember(cache, a, b) {
         Ok(()) => Ok(()),
-        Err(_) => Err(SubtypeError::Memory),
+        Err(AllocError) => Err(SubtypeError::Memory),
     }
 }
 

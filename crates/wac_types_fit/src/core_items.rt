@@ -100,7 +100,7 @@ fn behind_import(alloc: Global, from: &str, name: &str, fault: SubtypeError) -> 
     ensures words { SaysBehind result (ExternKind.Import, joined_name (from.now, name.now)) fault }
 {
     match join_names(alloc, from, name) {
-        Err(_) => SubtypeError::Memory,
+        Err(AllocError) => SubtypeError::Memory,
         Ok(joined) => behind(ExternKind::Import, joined, fault),
     }
 }

@@ -5,7 +5,7 @@ ghost use Rattle.wac_types_fit.specs.Frames.{Step};
 ghost use Rattle.wac_types_fit.specs.Errors.{steps_of, words_of, SaysBehind};
 ghost use Rattle.wac_types_fit.specs.Words.{in_turn};
 
-use std::alloc::Global;
+use std::alloc::{AllocError, AllocFailed, Global};
 use std::error::Error;
 use std::fmt;
 use wac_types_base::ExternKind;
@@ -58,7 +58,7 @@ pub(crate) fn behind(kind: ExternKind, name: String, fault: SubtypeError) -> Sub
             expected,
             found,
         } => match frames.insert(0, (kind, name)) {
-            Err(_) => SubtypeError::Memory,
+            Err(AllocFailed { .. }) => SubtypeError::Memory,
             Ok(()) => SubtypeError::Mismatch {
                 frames,
                 expected,
@@ -75,7 +75,7 @@ pub fn within(alloc: Global, kind: ExternKind, name: &str, fault: SubtypeError) 
     ensures words { SaysBehind result (kind, name.now) fault }
 {
     match String::from_str(alloc, name) {
-        Err(_) => SubtypeError::Memory,
+        Err(AllocError) => SubtypeError::Memory,
         Ok(name) => behind(kind, name, fault),
     }
 }

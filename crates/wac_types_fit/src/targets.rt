@@ -433,6 +433,6 @@ pub fn validate_target(
     let implicit = wanted.implicit_imported_interfaces(alloc, types)?;
     match report_of(alloc, types, &implicit, wanted, own) {
         Ok(report) => Ok(answer_of(report)),
-        Err(_) => Err(TargetError::Memory),
+        Err(AllocError) => Err(TargetError::Memory),
     }
 }

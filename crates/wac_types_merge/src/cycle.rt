@@ -13,7 +13,7 @@ ghost use Rattle.wac_types_merge.specs.Interfaces.{IsAt, MeetIn, ClashIn, ClashU
 
 use crate::exports::add_joined;
 use crate::narrower::fits_in;
-use std::alloc::Global;
+use std::alloc::{AllocError, Global};
 use wac_types_base::{ExternKind, Interface, InterfaceId, ItemKind, NamedMap, Type, Types};
 use wac_types_fit::SubtypeError;
 use wac_types_fit::errors::within;
@@ -111,9 +111,9 @@ fn merge_instances(
 {
     own.see_acyclic();
     match own.interface(a).copy(alloc) {
-        Err(_) => Err(SubtypeError::Memory),
+        Err(AllocError) => Err(SubtypeError::Memory),
         Ok(first) => match own.interface(b).copy(alloc) {
-            Err(_) => Err(SubtypeError::Memory),
+            Err(AllocError) => Err(SubtypeError::Memory),
             Ok(second) => merge_copies(alloc, own, a, &first, b, &second),
         },
     }
@@ -144,7 +144,7 @@ fn merge_copies(
     let both = merge_items(alloc, own, instances, &first.exports, &second.exports)?;
     match add_joined(alloc, own, first, second, both) {
         Ok(id) => Ok(id),
-        Err(_) => Err(SubtypeError::Memory),
+        Err(AllocError) => Err(SubtypeError::Memory),
     }
 }
 
@@ -160,10 +160,10 @@ fn push_item(
     ensures clash { IfClash result ⊥ }
 {
     match String::from_str(alloc, name) {
-        Err(_) => Err(SubtypeError::Memory),
+        Err(AllocError) => Err(SubtypeError::Memory),
         Ok(name) => match items.push(name, kind) {
             Ok(()) => Ok(()),
-            Err(_) => Err(SubtypeError::Memory),
+            Err(AllocError) => Err(SubtypeError::Memory),
         },
     }
 }

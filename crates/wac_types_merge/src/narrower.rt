@@ -1,7 +1,6 @@
 //! The narrower of two items.
 
-ghost use Rattle.std.specs.Prelude.{IfOk, IfErr, OnOk, IsTrue, IsSome, ◌↔◌};
-ghost use Rattle.wac_types_fit.specs.Errors.{steps_of};
+ghost use Rattle.std.specs.Prelude.{IfOk, IfErr, OnOk};
 ghost use Rattle.wac_types_base.specs.Collection.{Stands};
 ghost use Rattle.wac_types_fit.specs.Trees.{Fit};
 ghost use Rattle.wac_types_merge.specs.Errors.{IfClash, Refuses};
@@ -29,16 +28,6 @@ pub(crate) fn fits_in(
     checker.is_subtype(a, own, b, own)
 }
 
-/// Whether it is a mismatch, and no want of memory.
-fn is_mismatch(fault: &SubtypeError) -> bool
-    ensures { IsTrue result ↔ IsSome (steps_of fault.now) }
-{
-    match fault {
-        SubtypeError::Mismatch { .. } => true,
-        SubtypeError::Memory => false,
-    }
-}
-
 /// The item asked, where it fits the one kept, which does not fit it.
 fn asked_if_narrower(
     alloc: Global,
@@ -54,13 +43,8 @@ fn asked_if_narrower(
 {
     match fits_in(alloc, own, asked, kept) {
         Ok(()) => Ok(asked),
-        Err(fault) => {
-            if is_mismatch(&fault) {
-                Err(AggregateError::OutsideFamilies)
-            } else {
-                Err(AggregateError::Memory)
-            }
-        }
+        Err(SubtypeError::Memory) => Err(AggregateError::Memory),
+        Err(SubtypeError::Mismatch { .. }) => Err(AggregateError::OutsideFamilies),
     }
 }
 
@@ -78,12 +62,7 @@ pub(crate) fn narrower(
 {
     match fits_in(alloc, own, kept, asked) {
         Ok(()) => Ok(kept),
-        Err(fault) => {
-            if is_mismatch(&fault) {
-                asked_if_narrower(alloc, own, kept, asked)
-            } else {
-                Err(AggregateError::Memory)
-            }
-        }
+        Err(SubtypeError::Memory) => Err(AggregateError::Memory),
+        Err(SubtypeError::Mismatch { .. }) => asked_if_narrower(alloc, own, kept, asked),
     }
 }

@@ -192,7 +192,7 @@ impl<K: Clone + Eq + Hash, V: Drop> NameMap<K, V> {
         self.names.push(Spelling::read(alloc, name)?)?;
         match self.definitions.insert(key, item) {
             Ok(_) => Ok(()),
-            Err(_) => {
+            Err(AllocFailed { .. }) => {
                 let _ = self.names.pop();
                 Err(NameMapError::Memory)
             }

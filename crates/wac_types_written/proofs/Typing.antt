@@ -205,13 +205,15 @@ module _ (c : Collection) (id : Option Name) (uses : List (Name × UsedType)) (i
       ∙ ap (with_values types_only) (filter_found c imports es)
 
   -- the world of these imports is the component type
-  pub component_is : (d e : Collection) → Grows c d → Grows d e → (es : List (Name × InterfaceId)) (all : List (Name × ItemKind)) → AreUsed c uses imports exports es → AreMissing c d es imports all → ItemsStand c imports → ItemsStand c exports → ItemsStand d (all ++ imports)
-      → world_of id [] (stated_items e (all ++ imports)) (stated_items e exports) ≡ component_of c id uses imports exports
-  component_is d e g h es all used missing is xs stand =
+  pub component_is : (d e : Collection) → Grows c d → Grows d e → (es : List (Name × InterfaceId)) (all : List (Name × ItemKind)) → AreUsed c uses imports exports es → AreMissing c d es imports all → UsesStand c uses → ItemsStand c imports → ItemsStand c exports → ItemsStand d (all ++ imports)
+      → world_of id (stated_uses e uses) (stated_items e (all ++ imports)) (stated_items e exports) ≡ component_of c id uses imports exports
+  component_is d e g h es all used missing us is xs stand =
       let ys = stated_items c exports in
-      ap (λ l. world_of id [] l (stated_items e exports))
+      ap (λ u. world_of id u (stated_items e (all ++ imports)) (stated_items e exports))
+      (uses_kept d e h uses (λ u m. g.stand (ItemKind.Instance u.1.interface) (us u m)) ∙ uses_kept c d g uses us ∙ sym (world_uses id (stated_uses c uses) (stated_items c imports) ys))
+      ∙ ap (λ l. world_of id (uses_of whole) l (stated_items e exports))
       (items_kept d e h (all ++ imports) stand ∙ map-append (λ (x : Name × ItemKind). (x.0, stated_of d x.1)) all imports
       ∙ ap (λ l. l ++ stated_items d imports) (missing.are ∙ sym (missing_are es used))
       ∙ ap (λ l. missing_uses whole ++ l) (items_kept c d g imports is ∙ sym (world_imports id (stated_uses c uses) (stated_items c imports) ys)))
-      ∙ ap (world_of id [] (missing_uses whole ++ imports_of whole))
+      ∙ ap (world_of id (uses_of whole) (missing_uses whole ++ imports_of whole))
       (items_kept d e h exports (λ x m. g.stand x.1 (xs x m)) ∙ items_kept c d g exports xs ∙ sym (world_exports id (stated_uses c uses) (stated_items c imports) ys))

@@ -62,7 +62,7 @@ abbrev pub missing_uses : Stated → List (Name × Stated)
 missing_uses w = map (λ e. (e.0, types_only e.1)) (filter (λ e. not (is_some (value_at (imports_of w) e.0))) (used_by_world w))
 
 abbrev pub as_component_type : Stated → Stated
-as_component_type w = world_of (identifier_of w) [] (missing_uses w ++ imports_of w) (exports_of w)
+as_component_type w = world_of (identifier_of w) (uses_of w) (missing_uses w ++ imports_of w) (exports_of w)
 
 -- ---- what was found of the parts, in their place
 

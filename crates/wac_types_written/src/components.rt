@@ -121,7 +121,7 @@ pub(crate) fn add_component_type(
     add_all(&imports, alloc, &mut all)?;
     let world = types.add_world(World {
         id,
-        uses: NamedMap::new(alloc),
+        uses,
         imports: all,
         exports,
     })?;

@@ -58,19 +58,3 @@ module _ (c : Collection) (a : IsAcyclic c) where
 
     pub no_import_gives : None ≡ value_at (imports_in c w) n → IsImported (imports_of (stated_of c (ItemKind.Component w))) n (used_of c u) → ⊥
     no_import_gives e = nothing_imported (imports_of (stated_of c (ItemKind.Component w))) n (used_of c u) (imported None e)
-
-  -- ---- what stands for a resource
-
-  pub stands_resource : (k j : ItemKind) → is_some (resource_in k) ≡ true → Stands c k → same_item c k j ≡ stands_in c k (Some j)
-  stands_resource k j e s = by (resource_in k) refl e
-    where
-      by : (o : Option ResourceId) → resource_in k ≡ o → is_some o ≡ true → same_item c k j ≡ stands_in c k (Some j)
-      by None q t = absurd (true≢false (sym t))
-      by (Some r) q t = ap (λ b. not b || same_item c k j) (sym (resource_kind c a k r q s))
-
-  pub stands_other : (k j : ItemKind) → is_some (resource_in k) ≡ false → true ≡ stands_in c k (Some j)
-  stands_other k j e = by (resource_in k) refl e
-    where
-      by : (o : Option ResourceId) → resource_in k ≡ o → is_some o ≡ false → true ≡ stands_in c k (Some j)
-      by (Some r) q t = absurd (true≢false t)
-      by None q t = ap (λ b. not b || same_item c k j) (sym (other_kind c a k q))

@@ -55,17 +55,13 @@ module _ {X : Type 0} (F : X → Type 0) (xs : List X) where
 
 -- ---- what an import has
 
-stands_decide : (x y : Option Stated) → Decides (stands_as x y) ((z : Stated) → x ≡ Some z → (w : Stated) × (y ≡ Some w) × (kind_of z ≡ IsResource → tree z ≡ tree w))
+stands_decide : (x y : Option Stated) → Decides (stands_as x y) ((z : Stated) → x ≡ Some z → (w : Stated) × (y ≡ Some w) × (tree z ≡ tree w))
 stands_decide None y = (λ e z q. absurd (none-some _ q), λ h. refl)
 stands_decide (Some x) None = tells_no (λ h. let r = h x refl in none-some _ r.1)
-stands_decide (Some x) (Some y) = by (is_resource (kind_of x)) refl
-  where
-    by : (b : Bool) → is_resource (kind_of x) ≡ b → Decides (not b || same_tree (tree x) (tree y)) ((z : Stated) → Some x ≡ Some z → (w : Stated) × (Some y ≡ Some w) × (kind_of z ≡ IsResource → tree z ≡ tree w))
-    by false e = (λ q z r. (y, refl, λ k. absurd (true≢false (sym ((resource_decides (kind_of x)).1 (ap kind_of (same_Some _ _ r) ∙ k)) ∙ e))), λ h. refl)
-    by true e = (
-      λ q z r. (y, refl, λ k. ap tree (sym (same_Some _ _ r)) ∙ (trees_decide x y).0 q),
-      λ h. let w = h x refl in (trees_decide x y).1 (w.2 ((resource_decides (kind_of x)).0 e) ∙ ap tree (sym (same_Some _ _ w.1))),
-    )
+stands_decide (Some x) (Some y) = (
+  λ q z r. (y, refl, ap tree (sym (same_Some _ _ r)) ∙ (trees_decide x y).0 q),
+  λ h. let w = h x refl in (trees_decide x y).1 (w.2 ∙ ap tree (sym (same_Some _ _ w.1))),
+)
 
 module _ (is : List (Name × Stated)) (n : Name) (u : Used) where
   pub imported_decides : (y : Stated) → value_at is n ≡ Some y → Decides (stands_as (item_in u.interface u) (given_in y u)) (IsImported is n u)

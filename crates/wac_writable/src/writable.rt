@@ -315,29 +315,20 @@ fn interface_fails(test: Test<'_>, id: InterfaceId, which: Which) -> Result<bool
 
 // ---- component types
 
-fn is_resource_item(kind: ItemKind) -> bool
-    ensures { result ≡ is_some (resource_in kind) }
-{
-    matches!(kind, ItemKind::Ty(Type::Resource(_)))
-}
-
-/// Whether one item stands for another that is used: a resource with its tree.
+/// Whether one item stands for another that is used: one with its tree.
 fn stands_for(test: Test<'_>, item: ItemKind, there: Option<ItemKind>) -> Result<bool, AllocError>
     requires item { Stands test.types.now item }
     requires there { IfSome there (Stands test.types.now) }
     ensures { IfOk result (λ b. b ≡ stands_in test.entry.types.now item there) }
 {
     test.types.see_acyclic();
-    let Some(there) = there else {
-        return Ok(false);
-    };
-    if is_resource_item(item) {
-        return is_same_item(test.alloc, test.types, item, there);
+    match there {
+        Some(there) => is_same_item(test.alloc, test.types, item, there),
+        None => Ok(false),
     }
-    Ok(true)
 }
 
-/// Whether the import of a used interface gives what is used; a resource as itself.
+/// Whether the import of a used interface gives what is used, as itself.
 fn gives_used(test: Test<'_>, import: ItemKind, used: Use<'_>) -> Result<bool, AllocError>
     ensures { IfOk result (TellsGivenBy test.entry import used.entry) }
 {

@@ -13,9 +13,9 @@ returns-in_err-check_late-2-clause-cause c =
     let knows = c.in_ok-unnamed.ensures in
     rw p.1
     (λ os ds ps o d k.
-    told_after (late_cause true os) (option_or (late_cause false ds) (late_cause true ps)) p.0 (c.in_ok-check_late.ensures.none knows os (subst (λ l. AreLate t l os) (sym c.deref.ensures.value) o))
-    (told_first (late_cause false ds) (late_cause true ps) p.0
-    (subst (TellsHeld false t c.deref-2.result.now) (sym p.2) (c.in_err-check_late-2.ensures.cause knows) ds (subst (λ l. AreLate t l ds) (sym c.deref-2.ensures.value) d))))
+    told_after (late_cause true os) (option_or (late_cause true ds) (late_cause true ps)) p.0 (c.in_ok-check_late.ensures.none knows os (subst (λ l. AreLate t l os) (sym c.deref.ensures.value) o))
+    (told_first (late_cause true ds) (late_cause true ps) p.0
+    (subst (TellsHeld t c.deref-2.result.now) (sym p.2) (c.in_err-check_late-2.ensures.cause knows) ds (subst (λ l. AreLate t l ds) (sym c.deref-2.ensures.value) d))))
 
 pub returns-clause-cause : goal.returns-clause-cause
 returns-clause-cause c =
@@ -23,7 +23,7 @@ returns-clause-cause c =
     let knows = c.in_ok-unnamed.ensures in
     IfErr-weaker c.check_late-3.result _ _
     (λ e told os ds ps o d k.
-    told_after (late_cause true os) (option_or (late_cause false ds) (late_cause true ps)) e (c.in_ok-check_late.ensures.none knows os (subst (λ l. AreLate t l os) (sym c.deref.ensures.value) o))
-    (told_after (late_cause false ds) (late_cause true ps) e (c.in_ok-check_late-2.ensures.none knows ds (subst (λ l. AreLate t l ds) (sym c.deref-2.ensures.value) d))
+    told_after (late_cause true os) (option_or (late_cause true ds) (late_cause true ps)) e (c.in_ok-check_late.ensures.none knows os (subst (λ l. AreLate t l os) (sym c.deref.ensures.value) o))
+    (told_after (late_cause true ds) (late_cause true ps) e (c.in_ok-check_late-2.ensures.none knows ds (subst (λ l. AreLate t l ds) (sym c.deref-2.ensures.value) d))
     (told knows ps (subst (λ l. AreLate t l ps) (sym c.deref-3.ensures.value) k))))
     c.check_late-3.ensures.cause
