@@ -207,7 +207,7 @@ module _ (w : Worlds) (c : Collection) (outer : List Scope) where
       index = h.instances;
     }
 
-  count_same : (d : Description) (s : ItemScope) (t : TypeScope) → t.types ≡ s.types.types → count_of d (record s { types = t }) ≡ count_of d s
+  pub count_same : (d : Description) (s : ItemScope) (t : TypeScope) → t.types ≡ s.types.types → count_of d (record s { types = t }) ≡ count_of d s
   count_same (desc.Module k) s t e = refl
   count_same (desc.Func k) s t e = refl
   count_same (desc.Equal k) s t e = e

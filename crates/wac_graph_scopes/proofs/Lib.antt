@@ -1,4 +1,5 @@
 pub mod ScopeLaws
+pub mod CountLaws
 pub mod FormLaws
 pub mod ValueLaws
 pub mod EntryLaws

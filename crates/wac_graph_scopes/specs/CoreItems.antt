@@ -1,5 +1,5 @@
 -- What holds of the declarations of a core module type while they are written.
-use Rattle.std.specs.Prelude.{◌≡◌, ℕ, List, [], ◌∷◌, ◌++◌, length, Some, ◌⊎◌, String, string_bytes}
+use Rattle.std.specs.Prelude.{◌≡◌, ℕ, ◌≤◌, List, [], ◌∷◌, ◌++◌, length, Some, ◌⊎◌, String, string_bytes}
 use Rattle.std.specs.Global.{Global}
 use Rattle.wac_types_base.specs.declared.core_types.CoreType.{CoreType}
 use Rattle.wac_types_base.specs.declared.core_types.ModuleType.{ModuleType}
@@ -15,12 +15,13 @@ use Rattle.wac_graph_bytes.specs.Views.{module_view}
 use Rattle.wac_graph_scopes.specs.declared.fault.WriteError.{WriteError}
 use Rattle.wac_graph_scopes.specs.declared.core_items.ModuleScope.{ModuleScope}
 
--- the declarations state these signatures, imports and exports, and the signatures are counted
+-- the declarations state these signatures, imports and exports, and the signatures are counted; each has a declaration
 pub record IsModuleScope (s : ModuleScope) (sigs : List CoreFuncType) (is : List ((Name × Name) × CoreExtern))
     (es : List (Name × CoreExtern)) : Type 0 where
   pub reads : (rest : List CoreDeclaration)
       → module_by [] [] [] (module_view s.declarations.items ++ rest) ≡ module_by sigs is es rest
   pub count : s.signatures ≡ length sigs
+  pub within : length sigs ≤ length s.declarations.items
 
 -- with signatures of its own, perhaps, it goes on to these imports and exports
 abbrev pub GoesModule : ModuleScope → List ((Name × Name) × CoreExtern) → List (Name × CoreExtern) → Type 0

@@ -156,10 +156,9 @@ impl ModuleScope {
         let params = values_of(alloc, func.params.as_slice())?;
         let results = values_of(alloc, func.results.as_slice())?;
         let index = self.signatures;
-        let next = next_of(index)?;
         self.declarations
             .push(CoreDeclaration::Signature(params, results))?;
-        self.signatures = next;
+        self.signatures = next_of(index);
         Ok(index)
     }
 

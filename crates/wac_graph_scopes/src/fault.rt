@@ -7,7 +7,7 @@ use std::alloc::{AllocError, AllocFailed};
 
 #[derive(Debug, Drop)]
 pub enum WriteError {
-    /// A resource whose name does not stand in the scope.
+    /// What no declaration can state here, as a resource whose name does not stand in the scope.
     Unwritable,
     Memory,
 }

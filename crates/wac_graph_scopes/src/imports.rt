@@ -196,7 +196,7 @@ fn index_if_instance(sort: Sort, index: u64) -> Option<u64>
 ///
 /// # Errors
 ///
-/// `WriteError` where its type cannot be written, an index passes 32 bits, or memory is wanting.
+/// `WriteError` where its type cannot be written, or memory is wanting.
 pub fn describe_alone(
     alloc: Global,
     scope: &mut ItemScope,

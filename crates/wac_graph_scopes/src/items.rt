@@ -1,6 +1,6 @@
 //! Items in a scope of written types, and the types of instances.
 
-ghost use Rattle.std.specs.Prelude.{◌≡◌, ◌+◌, List, IfSome, IfNone, IfOk, IfErr, OnOk, Some, false, true, slice_get};
+ghost use Rattle.std.specs.Prelude.{◌≡◌, ◌+◌, ◌-◌, ◌^◌, List, IfSome, IfNone, IfOk, IfErr, OnOk, Some, false, true, slice_get};
 ghost use Rattle.wac_types_base.specs.declared.item.ItemKind.{ItemKind};
 ghost use Rattle.wac_types_base.specs.declared.item.«Type».{«Type» as TypeKind};
 ghost use Rattle.wac_types_base.specs.declared.item.ValueType.{ValueType};
@@ -63,16 +63,19 @@ struct PlacedInterface<'a> {
 }
 
 impl<'a> Around<'a> {
-    /// What stands around, seen from one scope deeper.
+    /// What stands around, seen from one scope deeper. No alias reaches further out than a number of 64 bits says.
     fn deeper(self) -> Result<Around<'a>, WriteError>
         ensures used { IfOk result (λ a. a.used.now ≡ self.entry.used.now) }
         ensures depth { IfOk result (λ a. a.depth ≡ self.entry.depth + 1) }
+        ensures refused { IfErr result (λ e. (e ≡ WriteError.Unwritable) × (self.entry.depth ≡ 2 ^ 64 - 1)) }
     {
-        let depth = next_of(self.depth)?;
-        Ok(Around {
-            used: self.used,
-            depth,
-        })
+        match self.depth.checked_add(1) {
+            Some(depth) => Ok(Around {
+                used: self.used,
+                depth,
+            }),
+            None => Err(WriteError::Unwritable),
+        }
     }
 }
 
@@ -103,11 +106,11 @@ impl ItemScope {
     fn add_type(&mut self, declaration: Declaration) -> Result<u64, WriteError>
         ensures adds { AddsType declaration self.old self.new result }
         ensures entry { EntersType declaration self.old self.new result }
+        ensures refused { IfErr result (λ e. e ≡ WriteError.Memory) }
     {
         self.types.declarations.push(declaration)?;
         let index = self.types.types;
-        let next = next_of(index)?;
-        self.types.types = next;
+        self.types.types = next_of(index);
         Ok(index)
     }
 
@@ -118,8 +121,7 @@ impl ItemScope {
     {
         self.types.declarations.push(declaration)?;
         let index = self.cores;
-        let next = next_of(index)?;
-        self.cores = next;
+        self.cores = next_of(index);
         Ok(index)
     }
 
@@ -129,12 +131,12 @@ impl ItemScope {
         declaration: Declaration,
         description: Description,
     ) -> Result<u64, WriteError>
-        ensures { AddsItem declaration description self.old self.new result }
+        ensures adds { AddsItem declaration description self.old self.new result }
+        ensures refused { IfErr result (λ e. e ≡ WriteError.Memory) }
     {
         self.types.declarations.push(declaration)?;
         let index = self.count_of(description);
-        let next = next_of(index)?;
-        self.set_count(description, next);
+        self.set_count(description, next_of(index));
         Ok(index)
     }
 

@@ -1,6 +1,6 @@
 //! A scope of written types.
 
-ghost use Rattle.std.specs.Prelude.{◌≡◌, ◌+◌, ◌↔◌, List, IfOk, IsTrue, string_bytes};
+ghost use Rattle.std.specs.Prelude.{◌≡◌, ◌+◌, ◌-◌, ◌^◌, ◌↔◌, min, List, IsTrue, string_bytes};
 ghost use Rattle.wac_types_base.specs.Record.{Collection};
 ghost use Rattle.wac_types_base.specs.Entries.{value_at};
 ghost use Rattle.wac_graph_bytes.specs.Typing.{Worlds, Scope, nothing_inside};
@@ -47,11 +47,11 @@ pub struct TypeScope {
     pub resources: NamedMap<u64>,
 }
 
-/// The count after this one. No memory holds as many things as this cannot count.
-pub(crate) fn next_of(count: u64) -> Result<u64, AllocError>
-    ensures ok { IfOk result (λ i. i ≡ count + 1) }
+/// The count after this one, or the last that there is. No memory holds as many things as that.
+pub(crate) fn next_of(count: u64) -> u64
+    ensures { result ≡ min (count + 1) (2 ^ 64 - 1) }
 {
-    count.checked_add(1).ok_or(AllocError)
+    count.saturating_add(1)
 }
 
 /// Whether two ids are one.
@@ -107,9 +107,8 @@ impl TypeScope {
         ensures resources { self.new.resources ≡ self.old.resources }
     {
         let index = self.types;
-        let next = next_of(index)?;
         self.declarations.push(Declaration::Defined(ty))?;
-        self.types = next;
+        self.types = next_of(index);
         Ok(index)
     }
 
@@ -127,10 +126,9 @@ impl TypeScope {
         ensures { ExportsNewType (string_bytes name) ty self.old self.new result }
     {
         let own = self.types;
-        let next = next_of(own)?;
         self.declarations
             .push(Declaration::Export(name, Description::Equal(ty)))?;
-        self.types = next;
+        self.types = next_of(own);
         Ok(own)
     }
 

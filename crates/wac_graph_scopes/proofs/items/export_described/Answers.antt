@@ -19,6 +19,6 @@ returns c w outer i h stands sorted e =
     let same : m ≡ n = c.in_ok-text.ensures.ok in
     let x : Sort × Tree = (description_sort d, t) in
     let reads = ap (λ (p : Name). described w (i.here ∷ outer) p d) same ∙ e in
-    let a = c.in_ok-index.ensures w types outer i (exports_inside m x i) (Item m (description_sort d) t) h (export_declared w types outer i c.in_ok-text.text d x reads) refl in
+    let a = c.in_ok-index.ensures.adds w types outer i (exports_inside m x i) (Item m (description_sort d) t) h (export_declared w types outer i c.in_ok-text.text d x reads) refl in
     IfOk-weaker c.note.result _ _ (λ u s. exported_item w types outer i m n t (description_sort d) c.note.new.self same s)
     (c.note.ensures w outer (exports_inside m x i) a.stands (noted_item w types outer i m c.args.item.kind d c.in_ok-index.index stands sorted a.index))

@@ -7,8 +7,8 @@ use Rattle.wac_graph_scopes.proofs.core_items.ModuleScope.signature.Goals as goa
 
 pub returns-clause-written : goal.returns-clause-written
 returns-clause-written c sigs is es h =
-    signature_added c.args.self.now (record c.args.self.now { declarations = c.push.new.self; signatures = c.in_ok-next.next }) sigs is es h c.in_ok-params.params c.in_ok-results.results c.args.func.now
-    c.in_ok-push.ensures.items c.in_ok-next.ensures.ok (c.in_ok-params.ensures.written ∙ c.as_slice.ensures) (c.in_ok-results.ensures.written ∙ c.as_slice-2.ensures)
+    signature_added c.args.self.now (record c.args.self.now { declarations = c.push.new.self; signatures = c.next_of-self.result }) sigs is es h c.in_ok-params.params c.in_ok-results.results c.args.func.now
+    c.in_ok-push.ensures.items c.next_of-self.ensures (c.in_ok-params.ensures.written ∙ c.as_slice.ensures) (c.in_ok-results.ensures.written ∙ c.as_slice-2.ensures)
 
 pub returns-in_err-params-clause-refused : goal.returns-in_err-params-clause-refused
 returns-in_err-params-clause-refused c =
