@@ -1,6 +1,6 @@
 //! Refusals on their way.
 
-ghost use Rattle.std.specs.Prelude.{◌≡◌, IfSome};
+ghost use Rattle.std.specs.Prelude.{◌≡◌};
 ghost use Rattle.wac_parser_refusals.specs.Views.{Names, cause_in, cause_of};
 
 use crate::error::Error;
@@ -19,24 +19,14 @@ pub enum Refusal {
 /// What a step of a resolution answers.
 pub type Outcome<T> = Result<T, Refusal>;
 
-/// A value behind a pointer, where there is memory for it.
-fn boxed<T: Drop>(alloc: Global, value: T) -> Option<Box<T>>
-    ensures { IfSome result (λ b. b.value ≡ value) }
-{
-    match Box::new(alloc, value) {
-        Ok(pointer) => Some(pointer),
-        Err(_) => None,
-    }
-}
-
 impl Refusal {
     /// The refusal for an error, or for want of memory where there is none for it.
     pub fn named(alloc: Global, error: Error) -> Self
         ensures { Names result (cause_of error) }
     {
-        match boxed(alloc, error) {
-            Some(error) => Refusal::Named(error),
-            None => Refusal::Memory,
+        match Box::new(alloc, error) {
+            Ok(error) => Refusal::Named(error),
+            Err(AllocFailed { .. }) => Refusal::Memory,
         }
     }
 
