@@ -8,7 +8,7 @@ ghost use Rattle.wac.specs.Running.{printed_over};
 
 use crate::stop::{Stop, key_taken};
 use std::alloc::Global;
-use wac_parser_print::DocumentPrinter;
+use wac_parser_print::{DocumentPrinter, PrintError};
 use wac_parser_tree::Document;
 use wac_types_names::BorrowedPackageKey;
 
@@ -49,7 +49,9 @@ fn print_document(document: &Document<'_>, alloc: Global, source: &str) -> Resul
     let mut printer = DocumentPrinter::new(Vec::new(alloc), source, None);
     match printer.document(document) {
         Ok(()) => Ok(printer.into_writer()),
-        Err(_) => Err(Stop::Memory),
+        // A vector fails to write only where memory for the bytes is refused.
+        Err(PrintError::Write) => Err(Stop::Memory),
+        Err(PrintError::Failed) => unreachable!(),
     }
 }
 

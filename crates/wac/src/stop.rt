@@ -54,7 +54,7 @@ pub(crate) fn with_text(text: Result<String, AllocError>) -> Stop
 {
     match text {
         Ok(text) => Stop::Refused { text, span: None },
-        Err(_) => Stop::Memory,
+        Err(AllocError) => Stop::Memory,
     }
 }
 
@@ -65,7 +65,7 @@ fn of_fault<E: Display>(alloc: Global, fault: &E, span: Option<SourceSpan>) -> S
 {
     match fault.to_string(alloc) {
         Ok(text) => Stop::Refused { text, span },
-        Err(_) => Stop::Memory,
+        Err(AllocError) => Stop::Memory,
     }
 }
 

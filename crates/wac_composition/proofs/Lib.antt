@@ -21,6 +21,5 @@ pub mod NotFound
 pub mod Against
 pub mod OutersAgain
 pub mod Lists
-pub mod Sizes
 pub mod SameWiring
 pub mod MergeRows

@@ -19,4 +19,3 @@ pub mod OuterLaws
 pub mod Examples
 pub mod Renaming
 pub mod Alike
-pub mod Large

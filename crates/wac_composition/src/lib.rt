@@ -27,7 +27,6 @@ ghost use Rattle.wac_composition.specs.Against.{FirstStands};
 ghost use Rattle.wac_composition.specs.Again.{Asked_again, Asked_by_identifier, Asking_twice};
 ghost use Rattle.wac_composition.specs.Renaming.{KeepsMeaning};
 ghost use Rattle.wac_composition.specs.Alike.{IsAlike, MeansAlike};
-ghost use Rattle.wac_composition.specs.Large.{Large_renamed, Large_alike};
 ghost use Rattle.wac_composition.specs.Sound.{IsSound, IsWired};
 ghost use Rattle.wac_composition.specs.Worlds.{composed_world, used_world, source_of};
 ghost use Rattle.wac_types_written.specs.Written.{without_uses};
@@ -114,13 +113,6 @@ pub fn names_do_not_matter<A, B, I, J>()
 /// The order in which an instance's arguments stand does not matter.
 pub fn order_does_not_matter<A, I>()
     ensures { (c d : Composition A I) → IsAlike c d → MeansAlike c d }
-{}
-
-/// A composition that is large is so under other names of its askers and instances, and whatever the order in
-/// which an instance's arguments stand; and one that is not, is not.
-pub fn large_stays_large<A, B, I, J>()
-    ensures renamed { Large_renamed A B I J }
-    ensures alike { Large_alike A I }
 {}
 
 /// In a composition that speaks of what is there alone, whose arguments fit, and whose asks are met, each import

@@ -6,17 +6,19 @@ use Rattle.std.proofs.lemmas.Result.{IfOk-weaker, on_ok_weaker}
 use Rattle.std.proofs.lemmas.List.{length-map}
 use Rattle.wac_types_base.specs.declared.ids.WorldId.{WorldId}
 use Rattle.wac_types_base.specs.declared.item.ItemKind.{ItemKind}
+use Rattle.wac_types_base.specs.declared.defined.World.{World}
 use Rattle.wac_types_base.specs.Record.{Collection}
 use Rattle.wac_types_base.specs.Entries.{Name, value_at}
 use Rattle.wac_types_base.specs.Graph.{Among}
-use Rattle.wac_types_base.specs.Collection.{Stands, IsAcyclic, Grows}
+use Rattle.wac_types_base.specs.Collection.{Stands, HasChildren, IsAcyclic, Grows, world_entry}
 use Rattle.wac_types_base.specs.Stated.{Stated, stated_of}
 use Rattle.wac_types_base.specs.Tree.{tree}
 use Rattle.wac_types_base.specs.Fits.{Fits}
 use Rattle.wac_types_base.proofs.Looked.{among-get}
 use Rattle.wac_types_base.proofs.Loops.{map-get}
 use Rattle.wac_types_base.proofs.Lists.{from_place}
-use Rattle.wac_types_written.specs.Forms.{stated_items}
+use Rattle.wac_types_written.specs.Forms.{ItemsStand, UsesStand, stated_items}
+use Rattle.wac_types_written.proofs.Ids.{world_children}
 use Rattle.wac_graph_core.specs.Graph.{Graph}
 use Rattle.wac_graph_scopes.specs.Parts.{imports_of}
 use Rattle.wac_graph_scopes.specs.declared.imports.Called.{Called}
@@ -46,10 +48,10 @@ use Rattle.wac_graph_asks.specs.Asked.{IsAsked, IsAskedOnce}
 use Rattle.wac_graph_asks.specs.AskedUses.{HasSame}
 use Rattle.wac_graph_asks.specs.Classed.{AreLabels, AreSpellings}
 use Rattle.wac_graph_asks.specs.Takes.{AreSound, AreTaken, TakesAll, AreMerged, IfConflict, RefusesAll, HasNoneLabelled, conflict_in, ConflictsFor, HasNoConflict}
-use Rattle.wac_graph_asks.specs.Imported.{AreImports, AreClassed, AddsImports, AreCalled, OutersOf, AddsAllNames}
+use Rattle.wac_graph_asks.specs.Imported.{ImportsAlone, AreImports, AreClassed, AddsImports, AreCalled, OutersOf, AddsAllNames}
 use Rattle.wac_graph_asks.specs.Outers.{IsCalled, AreOuters, AnswersOuters}
 use Rattle.wac_graph_asks.proofs.Asking.{asks_kept}
-use Rattle.wac_graph_asks.proofs.Importing.{imports_stay}
+use Rattle.wac_graph_asks.proofs.Importing.{imports_stand, imports_stay}
 use Rattle.wac_graph_asks.proofs.Merged.{all_merged, refused_labelled}
 use Rattle.wac_graph_asks.proofs.Once.{asked_once_keeps, asked_once_imports, asked_once_conflicts}
 use Rattle.wac_graph_asks.proofs.Repeating.{once_of_all, behind_has}
@@ -102,7 +104,7 @@ module _ (c : Collection) (held : List HeldAsk) (labels : List ℕ) (are : AreLa
   }
 
 -- the classes of asks are the same while the collection grows
-classed_still : (c d : Collection) → Grows c d → (held : List HeldAsk) (classes : Classes) → AreClassed c held classes → AreClassed d held classes
+pub classed_still : (c d : Collection) → Grows c d → (held : List HeldAsk) (classes : Classes) → AreClassed c held classes → AreClassed d held classes
 classed_still c d g held classes a =
     let same = asks_kept c d g held a.stand in
     record {
@@ -111,6 +113,12 @@ classed_still c d g held classes a =
       spellings = subst (λ asks. AreSpellings asks classes.labels.items classes.spellings.items) (sym same) a.spellings;
     }
 
+-- what the asks keep is what they keep in the collection that grew
+pub taken_still : (c d : Collection) → Grows c d → (held : List HeldAsk) (classes : Classes) (taken : List (ℕ × Taken)) → AreSound c held → AreClassed c held classes → TakesAll c held classes.labels.items d taken
+    → AreTaken d held (asks_in d held) classes.labels.items taken
+taken_still c d g held classes taken sound a takes =
+    subst (λ asks. AreTaken d held asks classes.labels.items taken) (sym (asks_kept c d g held a.stand)) (takes sound (a.labels.as_many ∙ length-map held (ask_in c)))
+
 outers_made : (c mid d : Collection) (held : List HeldAsk) (classes : Classes) (taken : List (ℕ × Taken)) (o : Outers) → Grows c mid → TakesAll c held classes.labels.items mid taken
     → AddsImports mid held classes taken d (imports_of d o.world) → AddsAllNames held classes.labels.items (keys_of taken) o.called.items → Stands d (ItemKind.Component o.world) → OutersOf c held classes d o
 outers_made c mid d held classes taken o g takes adds names stands sound a =
@@ -118,7 +126,7 @@ outers_made c mid d held classes taken o g takes adds names stands sound a =
     let same = asks_kept c mid g held a.stand in
     let many = a.labels.as_many ∙ length-map held (ask_in c) in
     let t : AreTaken mid held (asks_in c held) labels taken = takes sound many in
-    let imports = adds (classed_still c mid g held classes a) (subst (λ asks. AreTaken mid held asks labels taken) (sym same) t) in
+    let imports = adds (classed_still c mid g held classes a) (taken_still c mid g held classes taken sound a takes) in
     outers_are c held labels a.labels (all_merged c mid held labels taken takes sound a.labels) d o.world o.called.items
     (subst (λ asks. AreImports d asks labels (each_label labels) (imports_of d o.world)) same imports) (names many t.keys) stands
 
@@ -204,6 +212,13 @@ pub filled_so : {T E F : Type 0} (r : Result T E) (v : T) (added : Result (Unit 
 filled_so (Ok w) v (Ok u) P is ok h = subst P (sym is) h
 filled_so (Ok w) v (Err e) P is ok h = absurd (true≢false (sym ok))
 filled_so (Err e) v added P is ok h = tt
+
+-- a world of the imports of classes names what stands
+pub world_names_standing : (c d : Collection) (held : List HeldAsk) (classes : Classes) (taken : List (ℕ × Taken)) (w : World) → AreClassed c held classes → AreTaken c held (asks_in c held) classes.labels.items taken → ImportsAlone w
+    → AddsImports c held classes taken d w.imports → HasChildren d (world_entry w)
+world_names_standing c d held classes taken w a t alone adds =
+    world_children d w (subst (UsesStand d) (sym alone.uses) (λ u m. absurd m)) (imports_stand (asks_in c held) classes.labels.items d (each_label classes.labels.items) w.imports (adds a t))
+    (subst (ItemsStand d) (sym alone.exports) (λ x m. absurd m))
 
 -- a world that stands in a collection that has grown has the imports that were added
 pub world_made : (c d e : Collection) (held : List HeldAsk) (classes : Classes) (taken : List (ℕ × Taken)) (imports : List (Name × ItemKind)) (w : WorldId) → Grows d e → imports_of e w ≡ imports → AddsImports c held classes taken d imports

@@ -8,12 +8,13 @@ use Rattle.wac_types_base.specs.declared.item.ItemKind.{ItemKind}
 use Rattle.wac_types_base.specs.Record.{Collection}
 use Rattle.wac_types_base.specs.Entries.{Name, AreDistinct, names_of}
 use Rattle.wac_types_base.specs.Graph.{Among}
-use Rattle.wac_types_base.specs.Collection.{Grows}
+use Rattle.wac_types_base.specs.Collection.{Stands, Grows}
 use Rattle.wac_types_base.specs.Stated.{stated_of}
 use Rattle.wac_types_base.proofs.Adding.{Grows-trans}
 use Rattle.wac_types_base.proofs.Looked.{put_entry-new}
 use Rattle.wac_types_base.proofs.Lists.{among_split}
 use Rattle.wac_types_base.proofs.Stating.{stated_kept}
+use Rattle.wac_types_written.specs.Forms.{ItemsStand}
 use Rattle.wac_graph_core.proofs.Found.{eq_same, eq_false}
 use Rattle.wac_graph_scopes.proofs.OrderLaws.{distinct-append, distinct-apart}
 use Rattle.wac_composition.specs.Asks.{Ask}
@@ -100,6 +101,11 @@ module _ (asks : List (Ask ℕ)) (labels : List ℕ) where
     each_is = λ l x m. import_stays d e g (labelled l asks labels) x (h.each_is l x m);
     distinct = h.distinct;
   }
+
+  pub imports_stand : (d : Collection) (each : List ℕ) (imports : List (Name × ItemKind)) → AreImports d asks labels each imports → ItemsStand d imports
+  imports_stand d each imports h x m =
+      let o = mapped_among (λ (e : ℕ × (Name × ItemKind)). e.1) h.outers x (subst (Among x) (sym h.are) m) in
+      subst (λ (e : Name × ItemKind). Stands d e.1) (sym o.2) (h.each_is o.0.0 o.0.1 o.1).stands
 
   pub no_imports : (d : Collection) → AreImports d asks labels [] []
   no_imports d = record { outers = []; of_labels = refl; are = refl; each_is = λ l e m. absurd m; distinct = tt }

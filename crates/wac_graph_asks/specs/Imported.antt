@@ -56,6 +56,10 @@ pub record AreClassed (c : Collection) (held : List HeldAsk) (classes : Classes)
   pub labels : AreLabels (asks_in c held) classes.labels.items
   pub spellings : AreSpellings (asks_in c held) classes.labels.items classes.spellings.items
 
+-- this is what the classes of the asks keep
+abbrev pub ClassesKeep : Asked → Classes → List (ℕ × Taken) → Type 0
+ClassesKeep a classes taken = AreTaken a.types a.asks.items (asks_in a.types a.asks.items) classes.labels.items taken
+
 -- of each class what it keeps is put under its spelling
 abbrev pub AddsImports : Collection → List HeldAsk → Classes → List (ℕ × Taken) → Collection → List (Name × ItemKind) → Type 0
 AddsImports c held classes taken d imports =

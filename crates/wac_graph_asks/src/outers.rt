@@ -3,14 +3,15 @@
 ghost use Rattle.std.specs.Prelude.{◌≡◌, ◌∷◌, ◌++◌, [], IfOk, IfErr, OnOk};
 ghost use Rattle.std.specs.Map.{keys_of};
 ghost use Rattle.wac_types_base.specs.declared.item.ItemKind.{ItemKind};
-ghost use Rattle.wac_types_base.specs.Collection.{Grows, Stands};
+ghost use Rattle.wac_types_base.specs.Collection.{Grows, HasChildren, Stands, world_entry};
 ghost use Rattle.wac_graph_scopes.specs.Parts.{imports_of};
 ghost use Rattle.wac_graph_scopes.specs.declared.imports.Called.{Called};
 ghost use Rattle.wac_merging.specs.Kept.{Spells};
 ghost use Rattle.wac_graph_asks.specs.Asked.{KeepsAsked};
+ghost use Rattle.wac_graph_asks.specs.AskedUses.{AskedStand};
 ghost use Rattle.wac_graph_asks.specs.Named.{SpellsClass};
-ghost use Rattle.wac_graph_asks.specs.Takes.{ConflictsFor, HasNoConflict, HasNoneLabelled, IfConflict, IsNoConflict, Merges, MergesLabelled};
-ghost use Rattle.wac_graph_asks.specs.Imported.{AddsImport, AddsImports, AddsName, CallsNames, ImportsAlone, AddsAllNames};
+ghost use Rattle.wac_graph_asks.specs.Takes.{AreSound, ConflictsFor, HasNoConflict, HasNoneLabelled, IfConflict, IsNoConflict, Merges, MergesLabelled};
+ghost use Rattle.wac_graph_asks.specs.Imported.{AddsImport, AddsImports, AddsName, AreClassed, CallsNames, ImportsAlone, ClassesKeep, AddsAllNames};
 ghost use Rattle.wac_graph_asks.specs.Imported.{MakesImports, MakesWorld, OutersOf, RefusesIn};
 ghost use Rattle.wac_graph_asks.specs.Outers.{AnswersOuters, HasImportsAlone};
 
@@ -172,7 +173,10 @@ fn world_kept(
     classes: &Classes,
     taken: &IndexMap<usize, Taken>,
 ) -> Result<World, AllocError>
+    requires classed { AreClassed asked.old.types asked.old.asks.items classes.now }
+    requires taken { ClassesKeep asked.old classes.now taken.now.entries }
     ensures keeps { KeepsAsked asked.old asked.new }
+    ensures children { IfOk result (λ w. HasChildren asked.new.types (world_entry w)) }
     ensures imports { IfOk result (λ w. MakesImports asked.old classes.now taken.now.entries asked.new w.imports) }
     ensures alone { IfOk result ImportsAlone }
 {
@@ -196,6 +200,8 @@ fn outer_world(
     classes: &Classes,
     taken: &IndexMap<usize, Taken>,
 ) -> Result<WorldId, OuterError>
+    requires classed { AreClassed asked.old.types asked.old.asks.items classes.now }
+    requires taken { ClassesKeep asked.old classes.now taken.now.entries }
     ensures keeps { KeepsAsked asked.old asked.new }
     ensures stands { IfOk result (λ w. Stands asked.new.types (ItemKind.Component w)) }
     ensures imports { IfOk result (MakesWorld asked.old classes.now taken.now.entries asked.new) }
@@ -203,11 +209,8 @@ fn outer_world(
     ensures no_conflict { IfErr result IsNoConflict }
 {
     let world = world_kept(alloc, asked, classes, taken)?;
-    match add_world(&mut asked.types, world)? {
-        Some(world) => Ok(world),
-        // Each import stands, since what is asked does.
-        None => Err(OuterError::Memory),
-    }
+    let id = add_world(&mut asked.types, world)?;
+    Ok(id)
 }
 
 /// The outer imports of what is kept of the classes.
@@ -217,6 +220,8 @@ fn outers_kept(
     classes: &Classes,
     taken: &IndexMap<usize, Taken>,
 ) -> Result<Outers, OuterError>
+    requires classed { AreClassed asked.old.types asked.old.asks.items classes.now }
+    requires taken { ClassesKeep asked.old classes.now taken.now.entries }
     ensures keeps { KeepsAsked asked.old asked.new }
     ensures stands { IfOk result (λ o. Stands asked.new.types (ItemKind.Component o.world)) }
     ensures imports { IfOk result (λ o. MakesWorld asked.old classes.now taken.now.entries asked.new o.world) }
@@ -235,6 +240,8 @@ fn outers_of_classes(
     asked: &mut Asked,
     classes: &Classes,
 ) -> Result<Outers, OuterError>
+    requires sound { AreSound asked.old.types asked.old.asks.items }
+    requires classed { AreClassed asked.old.types asked.old.asks.items classes.now }
     ensures keeps { KeepsAsked asked.old asked.new }
     ensures stands { IfOk result (λ o. Stands asked.new.types (ItemKind.Component o.world)) }
     ensures merges { IfOk result (λ o. MergesLabelled asked.old.types asked.old.asks.items classes.now.labels.items) }
@@ -247,8 +254,9 @@ fn outers_of_classes(
     outers_kept(alloc, asked, classes, &taken)
 }
 
-/// The outer imports of what is asked.
+/// The outer imports of what is asked, all of which stands.
 pub fn outers_of(alloc: Global, asked: &mut Asked) -> Result<Outers, OuterError>
+    requires { AskedStand asked.old.types asked.old.asks.items }
     ensures keeps { KeepsAsked asked.old asked.new }
     ensures stands { IfOk result (λ o. Stands asked.new.types (ItemKind.Component o.world)) }
     ensures merges { IfOk result (λ o. Merges asked.old) }

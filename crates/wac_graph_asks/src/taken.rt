@@ -3,14 +3,14 @@
 ghost use Rattle.std.specs.Prelude.{◌≡◌, ◌<◌, [], Some, IsTrue, IfOk, IfErr, OnOk, length, slice_get};
 ghost use Rattle.wac_types_base.specs.Collection.{Stands, Grows};
 ghost use Rattle.wac_graph_asks.specs.declared.asks.Ask.{Ask};
-ghost use Rattle.wac_graph_asks.specs.Takes.{AsksSame, IfConflict, KeepsMore, KeepsNone, NamesConflict, RefusesAll, RefusesAt, RefusesMore, RefusesOne, TakesMore, TakesOne, Takes, TakesAll};
+ghost use Rattle.wac_graph_asks.specs.Takes.{AsksSame, IfConflict, IsMerging, KeepsMore, KeepsNone, NamesConflict, RefusesAll, RefusesAt, RefusesMore, RefusesOne, TakesMore, TakesOne, Takes, TakesAll};
 ghost use Rattle.wac_merging.specs.Kept.{IfMerging};
 
 use crate::asks::{Ask, Asking};
 use crate::classes::place_at;
 use crate::faults::OuterError;
 use indexmap::IndexMap;
-use std::alloc::Global;
+use std::alloc::{AllocError, Global};
 use wac_graph_core::NodeId;
 use wac_merging::{Kept, family_asked, kept_again, kept_first, kept_next, kept_with};
 use wac_types_base::Types;
@@ -25,27 +25,28 @@ pub(crate) struct Taken {
 }
 
 /// The refusal of an ask that does not merge with what is kept of its class.
-fn merge_fault(alloc: Global, ask: &Ask, first: NodeId, source: AggregateError) -> OuterError
-    ensures { NamesConflict ask.now first source result }
+fn merge_fault(
+    alloc: Global,
+    ask: &Ask,
+    first: NodeId,
+    source: AggregateError,
+) -> Result<OuterError, AllocError>
+    requires { IsMerging source }
+    ensures { IfOk result (NamesConflict ask.now first source) }
 {
-    let Ok(name) = String::from_str(alloc, ask.name.as_str()) else {
-        return OuterError::Memory;
-    };
-    if matches!(&source, AggregateError::Memory) {
-        return OuterError::Memory;
-    }
+    let name = String::from_str(alloc, ask.name.as_str())?;
     match ask.asking {
-        Asking::ByName => OuterError::ExplicitImportConflict {
+        Asking::ByName => Ok(OuterError::ExplicitImportConflict {
             name,
             first,
             second: ask.by,
-        },
-        _ => OuterError::ImportTypeMergeConflict {
+        }),
+        _ => Ok(OuterError::ImportTypeMergeConflict {
             import: name,
             first,
             second: ask.by,
             source,
-        },
+        }),
     }
 }
 
@@ -135,7 +136,11 @@ fn taken_more(
             first: before.first,
             kept,
         }),
-        Err(source) => Err(merge_fault(alloc, ask, first.by, source)),
+        Err(AggregateError::Memory) => Err(OuterError::Memory),
+        Err(source) => {
+            let fault = merge_fault(alloc, ask, first.by, source)?;
+            Err(fault)
+        }
     }
 }
 

@@ -10,10 +10,6 @@ pub mod OuterCauses
 pub mod DefinitionCauses
 pub mod PackageCauses
 pub mod AllCauses
-pub mod Labels
-pub mod Sums
-pub mod SizeLaws
-pub mod WholeSizes
 pub mod UsedInside
 pub mod Orders
 pub mod LateLaws

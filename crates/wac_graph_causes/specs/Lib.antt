@@ -4,7 +4,6 @@ pub mod Firsts
 pub mod Implicit
 pub mod Alike
 pub mod Unwritable
-pub mod Sizes
 pub mod Standing
 pub mod Spelling
 pub mod Orders

@@ -31,7 +31,6 @@ use Rattle.wac_graph_asks.proofs.Asking.{copy_kept, held_kept, world_kept}
 use Rattle.wac_graph_asks.proofs.ByNode.{entry_there}
 use Rattle.wac_graph_asks.proofs.Lasting.{outers_stay}
 use Rattle.wac_graph_encode.specs.declared.fault.BytesError.{BytesError}
-use Rattle.wac_graph_causes.specs.Sizes.{IsTooLarge}
 use Rattle.wac_graph_causes.specs.Alike.{AreHeld}
 use Rattle.wac_graph_causes.specs.Unwritable.{IsWhole}
 use Rattle.wac_graph_encode.specs.declared.options.EncodeOptions.{EncodeOptions}
@@ -136,7 +135,7 @@ module _ (g : Graph) (a : Asked) (o : Outers) (h : IsPrepared g a o) where
         means_imported alike define names = composed false define (importable g sound options ids define alike names each)
 
       -- entries that do not fit
-      module _ (fits : FitsProcessor options) (unfit : UnfitAsked {A = Vec ℕ Global} g new o definitions.items options (Err BytesError.TooLarge)) (large : IsTooLarge g) where
+      module _ (fits : FitsProcessor options) (unfit : UnfitAsked {A = Vec ℕ Global} g new o definitions.items options (Err BytesError.TooLarge)) where
         oversized : (d : Bool) → options.define_components ≡ d → AreToImport d g ids → IsOversized d g
         oversized d e can =
             let u : IsUnfit d g ids = subst (λ b. IsUnfit b g ids) e (unfit fits there each (subst (λ b. AreToImport b g ids) (sym e) can)) in
@@ -149,7 +148,6 @@ module _ (g : Graph) (a : Asked) (o : Outers) (h : IsPrepared g a o) where
 
         pub past_size : IsPastSize options g
         past_size = record {
-          large = large;
           nested = λ define. oversized true define tt;
           imported = λ define names alike. oversized false define (importable g sound options ids define alike names each);
         }

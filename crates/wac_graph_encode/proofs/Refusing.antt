@@ -15,7 +15,6 @@ use Rattle.wac_graph_causes.specs.Refusals.{outer_refusal, unwritten_refusal}
 use Rattle.wac_graph_causes.specs.Implicit.{implicit_cause, IsImplicit}
 use Rattle.wac_graph_causes.specs.Alike.{IsAlike}
 use Rattle.wac_graph_causes.specs.Unwritable.{TellsUnwritable, TellsUnwritten, unwritten_cause}
-use Rattle.wac_graph_causes.specs.Sizes.{IsTooLarge}
 use Rattle.wac_graph_encode.specs.declared.fault.BytesError.{BytesError}
 use Rattle.wac_graph_encode.specs.declared.options.EncodeOptions.{EncodeOptions}
 use Rattle.wac_graph_encode.specs.Faults.{bytes_refusal}
@@ -87,9 +86,9 @@ module _ (options : EncodeOptions) (g : Graph) where
   pub of_processor : (f : BytesError) → IfOfSize (HasLargeProcessor options) f → IfOfSize (HasLargeProcessor options ⊎ IsPastSize options g) f
   of_processor f h = if_of_size f inl h
 
-  pub of_size : (f : BytesError) → IfOfSize (IsTooLarge g) f → (IsTooLarge g → f ≡ BytesError.TooLarge → IsPastSize options g) → IfOfSize (HasLargeProcessor options ⊎ IsPastSize options g) f
-  of_size BytesError.TooLarge large past = inr (past large refl)
-  of_size BytesError.Memory large past = tt
+  pub of_size : (f : BytesError) → (f ≡ BytesError.TooLarge → IsPastSize options g) → IfOfSize (HasLargeProcessor options ⊎ IsPastSize options g) f
+  of_size BytesError.TooLarge past = inr (past refl)
+  of_size BytesError.Memory past = tt
 
   pub size_refused : (f : BytesError) → IfOfSize (HasLargeProcessor options ⊎ IsPastSize options g) f → IsRefusedFor options g (bytes_refusal f)
   size_refused BytesError.TooLarge h = h

@@ -14,7 +14,6 @@ use Rattle.wac_graph_causes.specs.Refusals.{refusal_shown}
 use Rattle.wac_graph_causes.specs.Implicit.{IsKeyOf, implicit_cause}
 use Rattle.wac_graph_causes.specs.Alike.{names_told, alike_cause}
 use Rattle.wac_graph_causes.specs.Unwritable.{outers_of, unwritten_cause}
-use Rattle.wac_graph_causes.specs.Sizes.{IsTooLarge}
 use Rattle.wac_graph_encode.specs.declared.options.EncodeOptions.{EncodeOptions}
 use Rattle.wac_graph_encode.specs.Encoding.{HaveDependencyNames, IsOversized}
 
@@ -58,9 +57,8 @@ HasLargeProcessor options = producers_if_fit (option_map processor_view options.
 abbrev pub FitsProcessor : EncodeOptions → Type 0
 FitsProcessor options = producers_if_fit (option_map processor_view options.processor) ≡ true
 
--- The composition or a package is large, and the entries of the component do not fit.
+-- the entries of the component do not fit
 pub record IsPastSize (options : EncodeOptions) (g : Graph) : Type 0 where
-  pub large : IsTooLarge g
   pub nested : options.define_components ≡ true → IsOversized true g
   pub imported : options.define_components ≡ false → HaveDependencyNames g → HasNoneAlike options g → IsOversized false g
 

@@ -4,10 +4,9 @@ ghost use Rattle.std.specs.Prelude.{◌≡◌, [], None, IfOk, IfErr, OnOk, map,
 ghost use Rattle.wac_types_base.specs.Entries.{names_of};
 ghost use Rattle.wac_graph_bytes.specs.Views.{all_names_view, view};
 ghost use Rattle.wac_graph_bytes.specs.Writing.{debug_if_fits};
-ghost use Rattle.wac_graph_causes.specs.Sizes.{IsTooLarge};
 ghost use Rattle.wac_graph_core.specs.Graph.{Graph};
 ghost use Rattle.wac_graph_asks.specs.Asked.{IsAsked, KeepsAsked};
-ghost use Rattle.wac_graph_asks.specs.AskedUses.{CopiesStand};
+ghost use Rattle.wac_graph_asks.specs.AskedUses.{AskedStand, CopiesStand};
 ghost use Rattle.wac_graph_asks.specs.Outers.{AnswersOuters};
 ghost use Rattle.wac_graph_causes.specs.Acyclic.{IsNoCycle};
 ghost use Rattle.wac_graph_causes.specs.Circling.{PackagesStand};
@@ -35,7 +34,6 @@ use wac_graph_causes::circles::check_circles;
 use wac_graph_causes::errors::{EncodeError, Refusal, error_of};
 use wac_graph_causes::implicit::check_implicit;
 use wac_graph_causes::names::check_names;
-use wac_graph_causes::sizes::tells_too_large;
 use wac_graph_causes::writable::check_writable;
 use wac_graph_core::CompositionGraph;
 use wac_graph_scopes::imports::Importing;
@@ -126,38 +124,6 @@ fn bytes_of(
     bytes_wired(writing, &mut wired)
 }
 
-/// That the entries of a graph do not fit. Where nothing of the graph is large, no entries of it are known that do not, but no
-/// contract says so; then want of memory is told.
-fn size_told(graph: &CompositionGraph) -> BytesError
-    ensures { IfOfSize (IsTooLarge graph.now) result }
-{
-    match tells_too_large(graph.alloc(), graph) {
-        Ok(true) => BytesError::TooLarge,
-        Ok(false) => BytesError::Memory,
-        Err(_) => BytesError::Memory,
-    }
-}
-
-/// The bytes of a composition against which no cause stands.
-fn bytes_told(
-    graph: &CompositionGraph,
-    asked: &Asked,
-    outers: &Outers,
-    definitions: &[Definition],
-    options: &EncodeOptions,
-) -> Result<Vec<u8>, BytesError>
-    ensures means { MeansAsked graph.now asked.now outers.now definitions.now options.now result }
-    ensures nests { NestsSo options.now.define_components graph.now (names_of asked.now.packages.entries) result }
-    ensures unfit { UnfitAsked graph.now asked.now outers.now definitions.now options.now result }
-    ensures large { IfErr result (IfOfSize (IsTooLarge graph.now)) }
-{
-    match bytes_of(graph, asked, outers, definitions, options) {
-        Ok(bytes) => Ok(bytes),
-        Err(BytesError::TooLarge) => Err(size_told(graph)),
-        Err(BytesError::Memory) => Err(BytesError::Memory),
-    }
-}
-
 /// The world of a composition, in a collection of this number.
 fn world_of(
     graph: &CompositionGraph,
@@ -204,7 +170,7 @@ fn bytes_asked(
         options.define_components,
     )?;
     check_processor(alloc, options)?;
-    let bytes = bytes_told(graph, asked, outers, &definitions, options)?;
+    let bytes = bytes_of(graph, asked, outers, &definitions, options)?;
     check_names(
         alloc,
         graph,
@@ -249,6 +215,7 @@ fn outers_checked(
     options: &EncodeOptions,
     asked: &mut Asked,
 ) -> Result<Outers, Refusal>
+    requires { AskedStand asked.old.types asked.old.asks.items }
     ensures keeps { OnOk result (KeepsAsked asked.old asked.new) }
     ensures outers { IfOk result (AnswersOuters asked.old asked.new) }
     ensures free { OnOk result (IsAsked graph.now asked.old → HasNoneClashing graph.now) }

@@ -48,6 +48,9 @@ pub mod laws {
         rules_have_forms, rules_take_what_fits, trees_are_begun,
     };
     pub use wac_parser_print::examples as printed_examples;
+    pub use wac_parser_read::{
+        list_faults_stand, lists_are_exact, optional_faults_stand, optionals_are_exact,
+    };
     pub use wac_parser_resolve::{
         askers_have_places, documents_are_wired, documents_mean_their_trees,
         examples as ascribed_examples, packages_are_known, packages_stay, refusals_stand,

@@ -43,7 +43,6 @@ use Rattle.wac_parser_resolve.proofs.Answers.{ok_is, ok_of}
 use Rattle.wac_parser_resolve.proofs.Ordered.{numbered_is, numbered_at, export_is}
 use Rattle.wac_parser_resolve.proofs.Rooted.{AreFound, both_found}
 use Rattle.wac_parser_resolve.proofs.Sound.{Sound, statements_sound}
-use Rattle.wac_composition.proofs.Sizes.{large_alike, large_renamed}
 use Rattle.wac_parser_ascribed.specs.Tied.{place_of, handed_tag, IsAscribed, IsTagged, Graphs_are_ascribed, handed_bytes}
 use Rattle.wac_parser_ascribed.proofs.Origins.{has_states, node_of, origin_is}
 use Rattle.wac_parser_ascribed.proofs.Places.{at_place, place_is}
@@ -239,7 +238,6 @@ module _ (g : Graph) (sound : IsGraph g) (acyclic : IsAcyclic g.types) {places :
     keys = keys g sound acyclic s b ps said;
     alike = alike g sound acyclic s b ps said;
     cause = λ define. sym (tied.cause define) ∙ keeps.cause define;
-    large = λ h. (large_alike _ _ (alike g sound acyclic s b ps said)).0 ((large_renamed who (place_of nodes) (composition_of g)).0 h);
     handed = λ k p made. let id = package_stands g sound acyclic k p made in ap handed_bytes (b.packages id.0 p id.1);
     names = λ define validate. sym (tied.names define validate) ∙ keeps.names define validate;
     world = sym tied.world ∙ keeps.world;

@@ -10,7 +10,6 @@ use Rattle.wac_graph_core.specs.Graph.{Graph, IsGraph, instantiated}
 use Rattle.wac_composition.specs.Alike.{IsAlike}
 use Rattle.wac_composition.specs.Asks.{asks_of}
 use Rattle.wac_composition.specs.Conflicts.{first_cause, name_cause}
-use Rattle.wac_composition.specs.Large.{IsLarge}
 use Rattle.wac_composition.specs.OuterImports.{outer_imports}
 use Rattle.wac_composition.specs.OuterLaws.{AreMet}
 use Rattle.wac_composition.specs.Renaming.{cause_renamed, renamed}
@@ -91,7 +90,6 @@ pub record IsAscribed (g : Graph) (at : Places) (s : State) : Type 0 where
   pub alike : IsAlike (renamed asker number (composition_of g)) (composition s)
   pub cause : (define : Bool)
       → first_cause define (composition s) ≡ option_map (cause_renamed asker) (first_cause define (composition_of g))
-  pub large : IsLarge (composition_of g) → IsLarge (composition s)
   pub handed : (k : ℕ) (p : Packaged) → instantiated g k ≡ Some p
       → handed_bytes (package_under s.packages (package_key p)) ≡ p.bytes
   pub names : (define validate : Bool)

@@ -1,4 +1,5 @@
 pub mod Added
+pub mod Fresh
 pub mod Kept
 pub mod Known
 pub mod Values

@@ -14,7 +14,7 @@ use Rattle.wac_types_base.specs.declared.ids.FuncTypeId.{FuncTypeId}
 use Rattle.wac_types_base.specs.declared.ids.InterfaceId.{InterfaceId}
 use Rattle.wac_types_base.specs.declared.ids.WorldId.{WorldId}
 use Rattle.wac_types_base.specs.Record.{Collection}
-use Rattle.wac_types_base.specs.Collection.{item_node, defined_entry, resource_entry, func_entry, interface_entry, world_entry}
+use Rattle.wac_types_base.specs.Collection.{Stands, item_node, defined_entry, resource_entry, func_entry, interface_entry, world_entry}
 
 abbrev pub HasDefined : Collection → DefinedType → DefinedTypeId → Type 0
 HasDefined c x i = item_node c (ItemKind.Value (ValueType.Defined i)) ≡ Some (defined_entry x)
@@ -30,3 +30,12 @@ HasInterface c x i = item_node c (ItemKind.Instance i) ≡ Some (interface_entry
 
 abbrev pub HasWorld : Collection → World → WorldId → Type 0
 HasWorld c x i = item_node c (ItemKind.Component i) ≡ Some (world_entry x)
+
+-- nothing stood under the id
+pub record IsNew (c : Collection) (k : ItemKind) : Type 0 where
+  pub absent : Stands c k → ⊥
+
+-- a type that did not stand, and is no resource
+pub record IsNewType (c : Collection) (t : TypeKind) : Type 0 where
+  pub absent : Stands c (ItemKind.Ty t) → ⊥
+  pub plain : (r : ResourceId) → t ≡ TypeKind.Resource r → ⊥

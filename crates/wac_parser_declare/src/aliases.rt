@@ -5,6 +5,8 @@ ghost use Rattle.std.specs.Prelude.{◌≡◌, IfOk, Some, option_map};
 ghost use Rattle.wac_types_base.specs.declared.item.ItemKind.{ItemKind};
 ghost use Rattle.wac_types_base.specs.declared.item.«Type».{«Type» as TypeKind};
 ghost use Rattle.wac_types_base.specs.Collection.{Stands, Grows, SlotStands, item_node, func_entry};
+ghost use Rattle.wac_parser_declare.specs.Added.{IsNewType};
+ghost use Rattle.wac_parser_declare.specs.declared.aliases.Place.{Place};
 ghost use Rattle.wac_parser_declare.specs.Aliases.{IsAlias, IsAliasAt, IsAliasFunc, IsAliasNamed, IsAliasOfType, IsAliasType, IsAliasValue};
 ghost use Rattle.wac_parser_declare.specs.Aliases.{IsFuncAlias, IsOwner, IsResourceAlias, IsTypeAlias, IsValueAlias};
 ghost use Rattle.wac_parser_declare.specs.Holding.{NamesStand};
@@ -65,6 +67,7 @@ fn value_alias<T: GrowingTypes>(types: &mut T, ty: ValueType) -> Outcome<Type>
     requires { Stands (T.collection types.old) (ItemKind.Value ty) }
     ensures outcome { IsValueAlias (T.collection types.old) ty (T.collection types.new) result }
     ensures stands { IfOk result (λ t. Stands (T.collection types.new) (ItemKind.Ty t)) }
+    ensures fresh { IfOk result (IsNewType (T.collection types.old)) }
     ensures grows { Grows (T.collection types.old) (T.collection types.new) }
     ensures packages { SamePackages (T.packages types.old) (T.packages types.new) }
 {
@@ -106,6 +109,7 @@ fn func_alias<T: GrowingTypes>(alloc: Global, types: &mut T, func: FuncTypeId) -
     requires { Stands (T.collection types.old) (ItemKind.Func func) }
     ensures outcome { IsFuncAlias (T.collection types.old) func (T.collection types.new) result }
     ensures stands { IfOk result (λ t. Stands (T.collection types.new) (ItemKind.Ty t)) }
+    ensures fresh { IfOk result (IsNewType (T.collection types.old)) }
     ensures grows { Grows (T.collection types.old) (T.collection types.new) }
     ensures packages { SamePackages (T.packages types.old) (T.packages types.new) }
 {
@@ -136,6 +140,7 @@ fn resource_at<T: GrowingTypes>(
     requires { Stands (T.collection types.old) (ItemKind.Ty (TypeKind.Resource resource)) }
     ensures outcome { IsAliasAt place alias.now source.now resource (T.collection types.old) (T.collection types.new) result }
     ensures stands { IfOk result (λ t. Stands (T.collection types.new) (ItemKind.Ty t)) }
+    ensures fresh { place ≡ Place.Root → IfOk result (IsNewType (T.collection types.old)) }
     ensures grows { Grows (T.collection types.old) (T.collection types.new) }
     ensures packages { SamePackages (T.packages types.old) (T.packages types.new) }
 {
@@ -163,6 +168,7 @@ fn alias_of_type<T: GrowingTypes>(
     requires { Stands (T.collection types.old) (ItemKind.Ty ty) }
     ensures outcome { IsAliasOfType place alias.now source.now ty (T.collection types.old) (T.collection types.new) result }
     ensures stands { IfOk result (λ t. Stands (T.collection types.new) (ItemKind.Ty t)) }
+    ensures fresh { place ≡ Place.Root → IfOk result (IsNewType (T.collection types.old)) }
     ensures grows { Grows (T.collection types.old) (T.collection types.new) }
     ensures packages { SamePackages (T.packages types.old) (T.packages types.new) }
 {
@@ -192,6 +198,7 @@ fn alias_of<T: GrowingTypes>(
     requires { Stands (T.collection types.old) kind }
     ensures outcome { IsAlias place (T.collection types.old) alias.now source.now kind (T.collection types.new) result }
     ensures stands { IfOk result (λ t. Stands (T.collection types.new) (ItemKind.Ty t)) }
+    ensures fresh { place ≡ Place.Root → IfOk result (IsNewType (T.collection types.old)) }
     ensures grows { Grows (T.collection types.old) (T.collection types.new) }
     ensures packages { SamePackages (T.packages types.old) (T.packages types.new) }
 {
@@ -221,6 +228,7 @@ fn alias_named<T: GrowingTypes>(
     ensures outcome { IsAliasNamed place (T.collection types.old) names.now alias.now source.now
         (T.collection types.new) result }
     ensures stands { IfOk result (λ t. Stands (T.collection types.new) (ItemKind.Ty t)) }
+    ensures fresh { place ≡ Place.Root → IfOk result (IsNewType (T.collection types.old)) }
     ensures grows { Grows (T.collection types.old) (T.collection types.new) }
     ensures packages { SamePackages (T.packages types.old) (T.packages types.new) }
 {
@@ -239,6 +247,7 @@ fn alias_value<T: GrowingTypes>(
     requires { NamesStand (T.collection types.old) names.now }
     ensures outcome { IsAliasValue (T.collection types.old) names.now ty.now (T.collection types.new) result }
     ensures stands { IfOk result (λ t. Stands (T.collection types.new) (ItemKind.Ty t)) }
+    ensures fresh { IfOk result (IsNewType (T.collection types.old)) }
     ensures grows { Grows (T.collection types.old) (T.collection types.new) }
     ensures packages { SamePackages (T.packages types.old) (T.packages types.new) }
 {
@@ -258,6 +267,7 @@ fn alias_type<T: GrowingTypes>(
     requires { NamesStand (T.collection types.old) names.now }
     ensures outcome { IsAliasType place (T.collection types.old) names.now alias.now ty.now (T.collection types.new) result }
     ensures stands { IfOk result (λ t. Stands (T.collection types.new) (ItemKind.Ty t)) }
+    ensures fresh { place ≡ Place.Root → IfOk result (IsNewType (T.collection types.old)) }
     ensures grows { Grows (T.collection types.old) (T.collection types.new) }
     ensures packages { SamePackages (T.packages types.old) (T.packages types.new) }
 {
@@ -277,6 +287,7 @@ fn alias_func<T: GrowingTypes>(
     requires { NamesStand (T.collection types.old) names.now }
     ensures outcome { IsAliasFunc (T.collection types.old) names.now ty.now (T.collection types.new) result }
     ensures stands { IfOk result (λ t. Stands (T.collection types.new) (ItemKind.Ty t)) }
+    ensures fresh { IfOk result (IsNewType (T.collection types.old)) }
     ensures grows { Grows (T.collection types.old) (T.collection types.new) }
     ensures packages { SamePackages (T.packages types.old) (T.packages types.new) }
 {
@@ -295,6 +306,7 @@ pub(crate) fn type_alias<T: GrowingTypes>(
     requires { NamesStand (T.collection types.old) names.now }
     ensures outcome { IsTypeAlias place (T.collection types.old) names.now decl.now (T.collection types.new) result }
     ensures stands { IfOk result (λ t. Stands (T.collection types.new) (ItemKind.Ty t)) }
+    ensures fresh { place ≡ Place.Root → IfOk result (IsNewType (T.collection types.old)) }
     ensures grows { Grows (T.collection types.old) (T.collection types.new) }
     ensures packages { SamePackages (T.packages types.old) (T.packages types.new) }
 {

@@ -5,6 +5,7 @@ ghost use Rattle.std.specs.Prelude.{◌≡◌, IfOk, OnOk, OnErr};
 ghost use Rattle.wac_types_base.specs.declared.item.ItemKind.{ItemKind};
 ghost use Rattle.wac_types_base.specs.declared.item.«Type».{«Type» as TypeKind};
 ghost use Rattle.wac_types_base.specs.Collection.{Stands, Grows, StandsIf};
+ghost use Rattle.wac_parser_declare.specs.Added.{IsNew};
 ghost use Rattle.wac_parser_declare.specs.Functions.{AreParams, IsFree, IsFuncNamed, IsFuncOf, IsFuncRef, IsFuncWith, IsParam, IsResultOf, IsScalar};
 ghost use Rattle.wac_parser_declare.specs.Holding.{AddsNew, EachStands, NamesStand, ValueStands, self_params};
 ghost use Rattle.wac_parser_declare.specs.Packages.{SamePackages};
@@ -170,6 +171,7 @@ pub(crate) fn function<T: GrowingTypes>(
     ensures outcome { IsFuncWith signature (T.collection types.old) names.now params.now.items results.now
         (T.collection types.new) result }
     ensures stands { IfOk result (λ f. Stands (T.collection types.new) (ItemKind.Func f)) }
+    ensures fresh { IfOk result (λ f. IsNew (T.collection types.old) (ItemKind.Func f)) }
     ensures grows { Grows (T.collection types.old) (T.collection types.new) }
     ensures packages { SamePackages (T.packages types.old) (T.packages types.new) }
 {
@@ -196,6 +198,7 @@ pub fn func_type<T: GrowingTypes>(
     requires { NamesStand (T.collection types.old) names.now }
     ensures outcome { IsFree (T.collection types.old) names.now ty.now (T.collection types.new) result }
     ensures stands { IfOk result (λ f. Stands (T.collection types.new) (ItemKind.Func f)) }
+    ensures fresh { IfOk result (λ f. IsNew (T.collection types.old) (ItemKind.Func f)) }
     ensures grows { Grows (T.collection types.old) (T.collection types.new) }
     ensures packages { SamePackages (T.packages types.old) (T.packages types.new) }
 {

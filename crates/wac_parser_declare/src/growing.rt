@@ -1,11 +1,14 @@
 //! Collections that grow.
-#![tactic(auto, using(crate::proofs::Added::added))]
+#![tactic(auto, using(crate::proofs::Added::added, crate::proofs::Fresh::fresh))]
 
 ghost use Rattle.std.specs.Prelude.{◌≡◌, IfOk, None};
 ghost use Rattle.std.specs.Coded.{coded_ℕ};
+ghost use Rattle.wac_types_base.specs.declared.item.ItemKind.{ItemKind};
+ghost use Rattle.wac_types_base.specs.declared.item.ValueType.{ValueType};
+ghost use Rattle.wac_types_base.specs.declared.item.«Type».{«Type» as TypeKind};
 ghost use Rattle.wac_types_base.specs.Record.{Collection};
 ghost use Rattle.wac_types_base.specs.Collection.{HasChildren, Grows, SlotStands, func_entry, interface_entry, world_entry, defined_entry, resource_entry};
-ghost use Rattle.wac_parser_declare.specs.Added.{HasDefined, HasFunc, HasInterface, HasResource, HasWorld};
+ghost use Rattle.wac_parser_declare.specs.Added.{HasDefined, HasFunc, HasInterface, HasResource, HasWorld, IsNew};
 ghost use Rattle.wac_parser_declare.specs.Packages.{IsDefinition, Known, SamePackages};
 
 use std::alloc::{AllocError, Global};
@@ -30,6 +33,7 @@ pub trait GrowingTypes {
     fn add_defined_type(&mut self, ty: DefinedType) -> Result<DefinedTypeId, AllocError>
         requires { HasChildren (collection self.old) (defined_entry ty) }
         ensures node { IfOk result (HasDefined (collection self.new) ty) }
+        ensures fresh { IfOk result (λ i. IsNew (collection self.old) (ItemKind.Value (ValueType.Defined i))) }
         ensures grows { Grows (collection self.old) (collection self.new) }
         ensures packages { SamePackages (packages self.old) (packages self.new) };
 
@@ -37,6 +41,7 @@ pub trait GrowingTypes {
     fn add_resource(&mut self, resource: Resource) -> Result<ResourceId, AllocError>
         requires { HasChildren (collection self.old) (resource_entry resource) }
         ensures node { IfOk result (HasResource (collection self.new) resource) }
+        ensures fresh { IfOk result (λ i. IsNew (collection self.old) (ItemKind.Ty (TypeKind.Resource i))) }
         ensures grows { Grows (collection self.old) (collection self.new) }
         ensures packages { SamePackages (packages self.old) (packages self.new) };
 
@@ -44,6 +49,7 @@ pub trait GrowingTypes {
     fn add_func_type(&mut self, func: FuncType) -> Result<FuncTypeId, AllocError>
         requires { HasChildren (collection self.old) (func_entry func) }
         ensures node { IfOk result (HasFunc (collection self.new) func) }
+        ensures fresh { IfOk result (λ i. IsNew (collection self.old) (ItemKind.Func i)) }
         ensures grows { Grows (collection self.old) (collection self.new) }
         ensures packages { SamePackages (packages self.old) (packages self.new) };
 
@@ -51,6 +57,7 @@ pub trait GrowingTypes {
     fn add_interface(&mut self, interface: Interface) -> Result<InterfaceId, AllocError>
         requires { HasChildren (collection self.old) (interface_entry interface) }
         ensures node { IfOk result (HasInterface (collection self.new) interface) }
+        ensures fresh { IfOk result (λ i. IsNew (collection self.old) (ItemKind.Instance i)) }
         ensures grows { Grows (collection self.old) (collection self.new) }
         ensures packages { SamePackages (packages self.old) (packages self.new) };
 
@@ -58,6 +65,7 @@ pub trait GrowingTypes {
     fn add_world(&mut self, world: World) -> Result<WorldId, AllocError>
         requires { HasChildren (collection self.old) (world_entry world) }
         ensures node { IfOk result (HasWorld (collection self.new) world) }
+        ensures fresh { IfOk result (λ i. IsNew (collection self.old) (ItemKind.Component i)) }
         ensures grows { Grows (collection self.old) (collection self.new) }
         ensures packages { SamePackages (packages self.old) (packages self.new) };
 }

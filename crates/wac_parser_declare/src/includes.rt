@@ -91,14 +91,17 @@ fn help_for(include: &WorldInclude<'_>) -> Option<&'static str>
 fn conflict(alloc: Global, inclusion: Inclusion<'_>, id: &Ident<'_>) -> Refusal
     ensures { Refuses result (conflict_of inclusion.entry id.now) id.now.span }
 {
-    let Ok(name) = String::from_str(alloc, id.string) else {
-        return Refusal::Memory;
+    let name = match String::from_str(alloc, id.string) {
+        Ok(name) => name,
+        Err(AllocError) => return Refusal::Memory,
     };
-    let Ok(from) = String::from_str(alloc, inclusion.include.world.name()) else {
-        return Refusal::Memory;
+    let from = match String::from_str(alloc, inclusion.include.world.name()) {
+        Ok(from) => from,
+        Err(AllocError) => return Refusal::Memory,
     };
-    let Ok(to) = String::from_str(alloc, inclusion.to) else {
-        return Refusal::Memory;
+    let to = match String::from_str(alloc, inclusion.to) {
+        Ok(to) => to,
+        Err(AllocError) => return Refusal::Memory,
     };
     let error = Error::WorldIncludeConflict {
         kind: inclusion.kind,

@@ -4,6 +4,7 @@
 ghost use Rattle.std.specs.Prelude.{◌≡◌, OnOk, IfOk, option_map};
 ghost use Rattle.wac_types_base.specs.declared.item.ItemKind.{ItemKind};
 ghost use Rattle.wac_types_base.specs.Collection.{Stands, Grows};
+ghost use Rattle.wac_parser_declare.specs.Added.{IsNew};
 ghost use Rattle.wac_parser_declare.specs.Held.{BodyStands};
 ghost use Rattle.wac_parser_declare.specs.Holding.{NamesStand};
 ghost use Rattle.wac_parser_declare.specs.InInterfaces.{AreInterfaceItems, IsInline, IsInterfaceBody, IsInterfaceDeclared, IsInterfaceItem};
@@ -18,7 +19,6 @@ use crate::resources::item_type;
 use crate::scope::Context;
 use crate::uses::use_types;
 use std::alloc::{AllocError, Global};
-use std::fmt::Write;
 use wac_parser_refusals::Outcome;
 use wac_parser_tree as ast;
 use wac_parser_tree::PackageName;
@@ -36,9 +36,7 @@ pub(crate) fn identifier(
     text.push_str("/")?;
     text.push_str(name)?;
     if let Some(version) = &own.version {
-        if let Err(_) = write!(text, "@{version}") {
-            return Err(AllocError);
-        }
+        write!(text, "@{version}")?;
     }
     Ok(Text::new(text))
 }
@@ -146,6 +144,7 @@ fn add_interface<T: PackagedTypes>(
     requires { BodyStands (T.collection types.old) body }
     ensures made { IsInterfaceMade id body (T.collection types.old) (T.collection types.new) result }
     ensures stands { IfOk result (λ i. Stands (T.collection types.new) (ItemKind.Instance i)) }
+    ensures fresh { IfOk result (λ i. IsNew (T.collection types.old) (ItemKind.Instance i)) }
     ensures grows { Grows (T.collection types.old) (T.collection types.new) }
     ensures packages { SamePackages (T.packages types.old) (T.packages types.new) }
 {
@@ -174,6 +173,7 @@ fn add_named<T: PackagedTypes>(
     requires { BodyStands (T.collection types.old) body }
     ensures made { IsInterfaceUnder own.now name.now body (T.collection types.old) (T.collection types.new) result }
     ensures stands { IfOk result (λ i. Stands (T.collection types.new) (ItemKind.Instance i)) }
+    ensures fresh { IfOk result (λ i. IsNew (T.collection types.old) (ItemKind.Instance i)) }
     ensures grows { Grows (T.collection types.old) (T.collection types.new) }
     ensures packages { SamePackages (T.packages types.old) (T.packages types.new) }
 {
@@ -212,6 +212,7 @@ pub(crate) fn interface_decl<T: PackagedTypes>(
     ensures outcome { IsInterfaceDeclared decl.now context.entry (T.collection types.old) (T.packages types.old)
         (T.collection types.new) result }
     ensures stands { IfOk result (λ i. Stands (T.collection types.new) (ItemKind.Instance i)) }
+    ensures fresh { IfOk result (λ i. IsNew (T.collection types.old) (ItemKind.Instance i)) }
     ensures grows { Grows (T.collection types.old) (T.collection types.new) }
     ensures packages { SamePackages (T.packages types.old) (T.packages types.new) }
 {

@@ -76,11 +76,13 @@ fn own_missing(
 ) -> Refusal
     ensures { Refuses result (fault.PackagePathMissingExport parent.now kind.now export.now) span }
 {
-    let Ok(name) = String::from_str(alloc, parent) else {
-        return Refusal::Memory;
+    let name = match String::from_str(alloc, parent) {
+        Ok(name) => name,
+        Err(AllocError) => return Refusal::Memory,
     };
-    let Ok(export) = String::from_str(alloc, export) else {
-        return Refusal::Memory;
+    let export = match String::from_str(alloc, export) {
+        Ok(export) => export,
+        Err(AllocError) => return Refusal::Memory,
     };
     let error = Error::PackagePathMissingExport {
         name,
@@ -189,14 +191,17 @@ fn foreign_missing(
 ) -> Refusal
     ensures { Refuses result (fault.PackageMissingExport path.now.name.now export.now (text_if kind.entry) passed.now) span }
 {
-    let Ok(package) = String::from_str(alloc, path.name) else {
-        return Refusal::Memory;
+    let package = match String::from_str(alloc, path.name) {
+        Ok(package) => package,
+        Err(AllocError) => return Refusal::Memory,
     };
-    let Ok(export) = String::from_str(alloc, export) else {
-        return Refusal::Memory;
+    let export = match String::from_str(alloc, export) {
+        Ok(export) => export,
+        Err(AllocError) => return Refusal::Memory,
     };
-    let Ok(path) = String::from_str(alloc, passed) else {
-        return Refusal::Memory;
+    let path = match String::from_str(alloc, passed) {
+        Ok(path) => path,
+        Err(AllocError) => return Refusal::Memory,
     };
     let error = Error::PackageMissingExport {
         package,

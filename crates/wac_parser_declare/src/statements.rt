@@ -4,6 +4,7 @@
 ghost use Rattle.std.specs.Prelude.{◌≡◌, IfOk};
 ghost use Rattle.wac_types_base.specs.declared.item.ItemKind.{ItemKind};
 ghost use Rattle.wac_types_base.specs.Collection.{Stands, Grows};
+ghost use Rattle.wac_parser_declare.specs.Added.{IsNewType};
 ghost use Rattle.wac_parser_declare.specs.Holding.{NamesStand};
 ghost use Rattle.wac_parser_declare.specs.InWorlds.{IsTypeStatement};
 ghost use Rattle.wac_parser_declare.specs.Packages.{SamePackages};
@@ -29,6 +30,7 @@ pub fn type_statement<T: PackagedTypes>(
     ensures outcome { IsTypeStatement statement.now context.entry (T.collection types.old) (T.packages types.old)
         (T.collection types.new) result }
     ensures stands { IfOk result (λ t. Stands (T.collection types.new) (ItemKind.Ty t)) }
+    ensures fresh { IfOk result (IsNewType (T.collection types.old)) }
     ensures grows { Grows (T.collection types.old) (T.collection types.new) }
     ensures packages { SamePackages (T.packages types.old) (T.packages types.new) }
 {

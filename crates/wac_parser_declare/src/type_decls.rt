@@ -4,6 +4,7 @@
 ghost use Rattle.std.specs.Prelude.{◌≡◌, IfOk, OnOk};
 ghost use Rattle.wac_types_base.specs.declared.item.ItemKind.{ItemKind};
 ghost use Rattle.wac_types_base.specs.Collection.{Stands, Grows, StandsIf};
+ghost use Rattle.wac_parser_declare.specs.Added.{IsNewType};
 ghost use Rattle.wac_parser_declare.specs.Aliases.{IsTypeDecl};
 ghost use Rattle.wac_parser_declare.specs.Holding.{EachStands, NamesStand, ValueStands};
 ghost use Rattle.wac_parser_declare.specs.Packages.{SamePackages};
@@ -100,6 +101,7 @@ pub(crate) fn variant_decl<T: GrowingTypes>(
     requires { NamesStand (T.collection types.old) names.now }
     ensures outcome { IsVariant (T.collection types.old) names.now decl.now (T.collection types.new) result }
     ensures stands { IfOk result (λ t. Stands (T.collection types.new) (ItemKind.Ty t)) }
+    ensures fresh { IfOk result (IsNewType (T.collection types.old)) }
     ensures grows { Grows (T.collection types.old) (T.collection types.new) }
     ensures packages { SamePackages (T.packages types.old) (T.packages types.new) }
 {
@@ -164,6 +166,7 @@ pub(crate) fn record_decl<T: GrowingTypes>(
     requires { NamesStand (T.collection types.old) names.now }
     ensures outcome { IsRecord (T.collection types.old) names.now decl.now (T.collection types.new) result }
     ensures stands { IfOk result (λ t. Stands (T.collection types.new) (ItemKind.Ty t)) }
+    ensures fresh { IfOk result (IsNewType (T.collection types.old)) }
     ensures grows { Grows (T.collection types.old) (T.collection types.new) }
     ensures packages { SamePackages (T.packages types.old) (T.packages types.new) }
 {
@@ -203,6 +206,7 @@ pub(crate) fn flags_decl<T: GrowingTypes>(
 ) -> Outcome<Type>
     ensures outcome { AreFlags decl.now (T.collection types.new) result }
     ensures stands { IfOk result (λ t. Stands (T.collection types.new) (ItemKind.Ty t)) }
+    ensures fresh { IfOk result (IsNewType (T.collection types.old)) }
     ensures grows { Grows (T.collection types.old) (T.collection types.new) }
     ensures packages { SamePackages (T.packages types.old) (T.packages types.new) }
 {
@@ -248,6 +252,7 @@ pub(crate) fn enum_decl<T: GrowingTypes>(
 ) -> Outcome<Type>
     ensures outcome { IsEnum decl.now (T.collection types.new) result }
     ensures stands { IfOk result (λ t. Stands (T.collection types.new) (ItemKind.Ty t)) }
+    ensures fresh { IfOk result (IsNewType (T.collection types.old)) }
     ensures grows { Grows (T.collection types.old) (T.collection types.new) }
     ensures packages { SamePackages (T.packages types.old) (T.packages types.new) }
 {
@@ -267,6 +272,7 @@ pub(crate) fn type_decl<T: GrowingTypes>(
     requires { NamesStand (T.collection types.old) names.now }
     ensures outcome { IsTypeDecl (T.collection types.old) names.now decl.now (T.collection types.new) result }
     ensures stands { IfOk result (λ t. Stands (T.collection types.new) (ItemKind.Ty t)) }
+    ensures fresh { IfOk result (IsNewType (T.collection types.old)) }
     ensures grows { Grows (T.collection types.old) (T.collection types.new) }
     ensures packages { SamePackages (T.packages types.old) (T.packages types.new) }
 {

@@ -5,6 +5,7 @@ ghost use Rattle.wac_types_base.specs.declared.item.ItemKind.{ItemKind};
 ghost use Rattle.wac_types_base.specs.declared.item.ValueType.{ValueType};
 ghost use Rattle.wac_types_base.specs.Collection as s;
 ghost use Rattle.wac_types_base.specs.Collection.{Stands, Grows, HasChildren, item_node, defined_entry, StandsIf};
+ghost use Rattle.wac_parser_declare.specs.Added.{IsNew};
 ghost use Rattle.wac_parser_declare.specs.Packages.{SamePackages};
 ghost use Rattle.wac_parser_declare.specs.ValueTypes as stated;
 ghost use Rattle.wac_parser_refusals.specs.Outcomes.{IsOutcome};
@@ -106,6 +107,7 @@ pub(crate) fn define<T: GrowingTypes>(
 ) -> Result<ValueType, AllocError>
     requires { HasChildren (T.collection types.old) (defined_entry ty) }
     ensures node { IfOk result (λ v. item_node (T.collection types.new) (ItemKind.Value v) ≡ Some (defined_entry ty)) }
+    ensures fresh { IfOk result (λ v. IsNew (T.collection types.old) (ItemKind.Value v)) }
     ensures grows { Grows (T.collection types.old) (T.collection types.new) }
     ensures packages { SamePackages (T.packages types.old) (T.packages types.new) }
 {

@@ -5,6 +5,7 @@ ghost use Rattle.std.specs.Prelude.{◌≡◌, OnOk, IfOk, IfSome, None};
 ghost use Rattle.wac_types_base.specs.declared.item.ItemKind.{ItemKind, ItemKind as Item};
 ghost use Rattle.wac_types_base.specs.Record.{Collection};
 ghost use Rattle.wac_types_base.specs.Collection.{Stands, Grows};
+ghost use Rattle.wac_parser_declare.specs.Added.{IsNew};
 ghost use Rattle.wac_parser_declare.specs.Held.{BodyStands, stated_body};
 ghost use Rattle.wac_parser_declare.specs.Holding.{ItemsStand, NamesStand};
 ghost use Rattle.wac_parser_declare.specs.InWorlds.{AddsExtern, AddsInterface, AreIncludes, AreParts, IsExternType, IsInclude, IsNamedItem};
@@ -397,6 +398,7 @@ fn add_world<T: PackagedTypes>(
     requires { BodyStands (T.collection types.old) body }
     ensures made { IsWorldMade (identifier_of own.now name.now) body (T.collection types.old) (T.collection types.new) result }
     ensures stands { IfOk result (λ i. Stands (T.collection types.new) (ItemKind.Component i)) }
+    ensures fresh { IfOk result (λ i. IsNew (T.collection types.old) (ItemKind.Component i)) }
     ensures grows { Grows (T.collection types.old) (T.collection types.new) }
     ensures packages { SamePackages (T.packages types.old) (T.packages types.new) }
 {
@@ -427,6 +429,7 @@ pub(crate) fn world_decl<T: PackagedTypes>(
     ensures outcome { IsWorldDeclared decl.now context.entry (T.collection types.old) (T.packages types.old)
         (T.collection types.new) result }
     ensures stands { IfOk result (λ i. Stands (T.collection types.new) (ItemKind.Component i)) }
+    ensures fresh { IfOk result (λ i. IsNew (T.collection types.old) (ItemKind.Component i)) }
     ensures grows { Grows (T.collection types.old) (T.collection types.new) }
     ensures packages { SamePackages (T.packages types.old) (T.packages types.new) }
 {

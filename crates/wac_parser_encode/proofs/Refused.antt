@@ -3,10 +3,10 @@ use Rattle.std.specs.Prelude.{◌⊎◌, option_map, string_bytes, Result, Ok, E
 use Rattle.std.specs.Str.{chars, is_utf8}
 use lib.Utf8.{encode}
 use Rattle.std.proofs.lemmas.Option.{none-some}
-use Rattle.std.proofs.Common.{◌≡◌, ◌≤◌, ◌^◌, ℕ, List, length, codes, Bool, true, false, true≢false, Option, Some, None, refl, sym, ap, subst, inl, inr, ◌∙◌}
+use Rattle.std.proofs.Common.{◌≡◌, ℕ, List, codes, Bool, true, false, true≢false, Option, Some, None, refl, sym, ap, subst, inl, inr, ◌∙◌}
 use Rattle.wac_types_base.specs.Collection.{IsAcyclic}
 use Rattle.wac_types_names.specs.declared.package.PackageKey.{PackageKey}
-use Rattle.wac_types_names.specs.Keys.{owned_key, package_key}
+use Rattle.wac_types_names.specs.Keys.{owned_key}
 use Rattle.wac_graph_bytes.specs.declared.entry.Processor.{Processor}
 use Rattle.wac_graph_bytes.specs.Leb.{digits, digits_by}
 use Rattle.wac_graph_bytes.specs.Views.{processor_view}
@@ -15,14 +15,12 @@ use Rattle.wac_graph_core.specs.Graph.{Graph, IsGraph}
 use Rattle.wac_composition.specs.Against.{StandsAgainst}
 use Rattle.wac_composition.specs.Conflicts as cause
 use Rattle.wac_composition.specs.Conflicts.{first_cause, name_cause}
-use Rattle.wac_composition.specs.Large.{IsLarge}
 use Rattle.wac_composition.specs.Renaming.{cause_renamed}
 use Rattle.wac_composition.proofs.Against.{causes_stand}
 use Rattle.wac_graph_asks.specs.Graphs.{composition_of}
 use Rattle.wac_graph_causes.specs.declared.errors.EncodeError.{EncodeError}
 use Rattle.wac_graph_causes.specs.declared.errors.ValidationFault.{ValidationFault}
 use Rattle.wac_graph_causes.specs.Implicit.{IsKeyOf}
-use Rattle.wac_graph_causes.specs.Sizes.{IsTooLarge}
 use Rattle.wac_graph_encode.specs.declared.options.EncodeOptions.{EncodeOptions}
 use Rattle.wac_graph_encode.specs.Refused as graph
 use Rattle.wac_graph_encode.specs.Refused.{cause_in, HasLargeProcessor, IsErrorFor, IsFree}
@@ -38,7 +36,7 @@ use Rattle.wac_parser_ascribed.specs.Tied.{IsAscribed, IsPlaced}
 use Rattle.wac_parser_ascribed.proofs.Wired.{ascribed}
 use Rattle.wac_parser_resolve.specs.InDocuments.{IsBuilt}
 use Rattle.wac_parser_encode.specs.Processing.{HasProcessor, IsProcessed}
-use Rattle.wac_parser_encode.specs.Sizes.{HasLargeHanded, IsPastSize}
+use Rattle.wac_parser_encode.specs.Sizes.{IsPastSize}
 use Rattle.wac_parser_encode.proofs.Meaning.{entries_said, imports_stated, names_of_graph}
 use Rattle.wac_parser_encode.specs.Refused.{CanBeEncoded, IsFirst, IsOfSize, AreFirstAlike, TellsCause, RefusesResolved, TellsFirst, TellsAnywhere, fault_in}
 
@@ -69,7 +67,6 @@ own_fits = refl
 -- what a graph says of its size holds of the document
 past_size : (g : Graph) (options : EncodeOptions) (sound : IsGraph g) (acyclic : IsAcyclic g.types) (at : Places) (s : State) (b : IsBuilt g at s) → IsAscribed g at s → graph.IsPastSize options g → IsPastSize options s
 past_size g options sound acyclic at s b tied past = record {
-  large = of_large past.large;
   nested = λ define. (
       let o = past.nested define in
       record { entries = o.entries; state = entries_said g sound acyclic at s b tied o.entries o.state; unfit = o.unfit }
@@ -80,10 +77,6 @@ past_size g options sound acyclic at s b tied past = record {
       );
 }
   where
-    of_large : IsTooLarge g → IsLarge (composition s) ⊎ HasLargeHanded s
-    of_large (inl large) = inl (tied.large large)
-    of_large (inr (k, of)) = inr (package_key of.held, subst (λ (bs : List ℕ). 2 ^ 32 ≤ length bs) (sym (tied.handed k of.held of.is)) of.large)
-
     none_either : (o : Option (cause.Cause ℕ)) → option_map (cause_renamed tied.asker) o ≡ None → o ≡ None
     none_either None e = refl
     none_either (Some x) e = absurd (none-some _ (sym e))
@@ -177,7 +170,7 @@ processed g old new e is h = by e (subst (λ (b : Bool). IsErrorFor (record new 
     by (EncodeError.ImportTypeMergeConflict n first second source) h = h
     by (EncodeError.TypeCannotBeWritten n) h = h
     by EncodeError.TooLarge (inl large) = inl (large_processor old new is large)
-    by EncodeError.TooLarge (inr past) = inr (record { large = past.large; nested = past.nested; imported = λ define names alike. past.imported define names ((λ j. name_cause old.define_components (is.validate j) (composition_of g)) ∙ alike) })
+    by EncodeError.TooLarge (inr past) = inr (record { nested = past.nested; imported = λ define names alike. past.imported define names ((λ j. name_cause old.define_components (is.validate j) (composition_of g)) ∙ alike) })
     by (EncodeError.ValidationFailure fault) h = (λ j. name_cause old.define_components (sym is.validate j) (composition_of g)) ∙ h
     by (EncodeError.GraphContainsCycle node) h = absurd h
     by EncodeError.Memory h = tt

@@ -1,19 +1,16 @@
 -- When what a document says passes 32 bits as a component.
-use Rattle.std.specs.Prelude.{◌≡◌, ◌⊎◌, ◌≤◌, ◌^◌, ℕ, true, false, List, None, length}
+use Rattle.std.specs.Prelude.{◌≡◌, ℕ, true, false, List, None}
 use Rattle.wac_types_base.specs.Graph.{Among}
 use Rattle.wac_types_base.specs.Tree.{tree}
-use Rattle.wac_types_names.specs.Keys.{Key}
 use Rattle.wac_graph_bytes.specs.Entries.{Entry}
 use Rattle.wac_graph_bytes.specs.Meaning.{States}
 use Rattle.wac_graph_bytes.specs.Typing.{Worlds}
 use Rattle.wac_graph_bytes.specs.Wirings.{Wiring, Same}
 use Rattle.wac_composition.specs.Conflicts.{dependency_name, name_cause}
-use Rattle.wac_composition.specs.Large.{IsLarge}
 use Rattle.wac_composition.specs.Wired.{composed_wiring}
 use Rattle.wac_graph_encode.specs.declared.options.EncodeOptions.{EncodeOptions}
 use Rattle.wac_graph_encode.specs.Encoding.{HasUnfit}
-use Rattle.wac_parser_declare.specs.Scope.{package_under}
-use Rattle.wac_parser_ascribed.specs.Tied.{ascribed_wiring, handed_bytes}
+use Rattle.wac_parser_ascribed.specs.Tied.{ascribed_wiring}
 use Rattle.wac_parser_resolve.specs.Ascribed.{composition}
 use Rattle.wac_parser_resolve.specs.Ascribing.{Made, State}
 use Rattle.wac_parser_encode.specs.Meaning.{AreTrueAs, AreTrueOf, CanBeImported, imported_tag}
@@ -44,13 +41,8 @@ pub record IsOversizedImporting (s : State) : Type 0 where
   pub state : (worlds : Worlds) → AreTrueAs imported_tag s worlds → StateImporting s worlds entries
   pub unfit : HasUnfit entries
 
--- a package that is handed in has more bytes than a size of 32 bits counts
-abbrev pub HasLargeHanded : State → Type 0
-HasLargeHanded s = (k : Key) × (2 ^ 32 ≤ length (handed_bytes (package_under s.packages k)))
-
--- What is said is large, or so is a package; and the entries of its component do not fit.
+-- the entries of its component do not fit
 pub record IsPastSize (options : EncodeOptions) (s : State) : Type 0 where
-  pub large : IsLarge (composition s) ⊎ HasLargeHanded s
   pub nested : options.define_components ≡ true → IsOversized s
   pub imported : options.define_components ≡ false → CanBeImported s
       → name_cause false options.validate (composition s) ≡ None → IsOversizedImporting s

@@ -124,7 +124,7 @@ fn encoded_bytes(graph: &CompositionGraph, options: EncodeOptions) -> Result<Vec
     graph.types().see_acyclic();
     match with_processor(graph.alloc(), options) {
         Ok(options) => graph.encode(options),
-        Err(_) => Err(EncodeError::Memory),
+        Err(AllocError) => Err(EncodeError::Memory),
     }
 }
 
@@ -149,7 +149,7 @@ fn encoded_world(
     graph.types().see_acyclic();
     match with_processor(graph.alloc(), options) {
         Ok(options) => graph.encode_world(options, numbers),
-        Err(_) => Err(EncodeError::Memory),
+        Err(AllocError) => Err(EncodeError::Memory),
     }
 }
 

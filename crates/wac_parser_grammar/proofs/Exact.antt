@@ -241,3 +241,16 @@ begin_begins k ks p q b = record {
 -- a last choice among several first tokens
 pub last_begins : {X : Type 0} (ks : List Token) (p : Rule X) (fault : Input → Fault) → Begins ks (begin_any ks p (refuse fault))
 last_begins ks p fault = record { begins = λ s y r h. elim h.3 [ inl w ↦ sym h.2.0 ∙ w.0 | inr w ↦ absurd w.1 ] }
+
+-- behind a token that may come first
+pub optional_begins : {B : Type 0} (k : Token) (ks : List Token) (f : Bool → Rule B) → ((a : Bool) → Begins ks (f a)) → Begins (k ∷ ks) (optional k >>= f)
+unfolding optional sees sees_any
+optional_begins k ks f b = record {
+  begins = λ s y r h.
+      let here : h.2.1 ≡ s = h.2.2.1 in
+      let found = h.2.3 in
+      elim found.3 [
+        | inl w ↦ (let P : Input → Type 0 = λ (m : Input). is_token k (token_of (first_item m)) ≡ true in any_at k ks (token_of (first_item s)) (subst P here (sym found.2.0 ∙ w.0)))
+        | inr w ↦ (let P : Input → Type 0 = λ (m : Input). is_any ks (token_of (first_item m)) ≡ true in any_later k ks (token_of (first_item s)) (is_token k (token_of (first_item s))) refl (subst P (w.1.1 ∙ found.2.1 ∙ here) ((b h.0).begins h.1 y r h.3)))
+      ];
+}

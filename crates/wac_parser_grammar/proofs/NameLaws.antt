@@ -82,3 +82,7 @@ package_path_exact = bind _ _ (token_exact k.PackagePath) (λ v0. bind _ _ (look
 pub package_path_takes : Takes package_path
 unfolding package_path
 package_path_takes = bind_takes _ _ (token_takes k.PackagePath) (λ v0. bind_keeps _ _ (look_keeps _) (λ v1. bind_keeps _ _ (version_of_keeps v1 v0) (λ v2. pure_keeps _)))
+
+pub package_path_begins : Begins (k.PackagePath ∷ []) package_path
+unfolding package_path
+package_path_begins = bind_begins _ _ _ (token_begins k.PackagePath [])

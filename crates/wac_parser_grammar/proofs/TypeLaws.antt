@@ -5,7 +5,7 @@ use Rattle.wac_parser_lexer.specs.declared.token.Token.{Token}
 use Rattle.wac_parser_lexer.specs.declared.token.Token.TheVariants as k
 use Rattle.wac_parser_tree.specs.Trees as t
 use Rattle.wac_parser_grammar.specs.Rules.{Rule}
-use Rattle.wac_parser_grammar.proofs.Exact.{Exact, Takes, Keeps, Begins, bind, pure_exact, refuse_exact, look_exact, choose_exact, begin_exact, begin_any_exact, token_exact, optional_exact, bind_takes, bind_keeps, then_takes, still_keeps, pure_keeps, look_keeps, refuse_takes, token_takes, choose_keeps, begin_takes, begin_any_takes, begin_any_keeps, optional_keeps, bind_begins, refuse_begins, begin_begins}
+use Rattle.wac_parser_grammar.proofs.Exact.{Exact, Takes, Keeps, Begins, bind, pure_exact, refuse_exact, look_exact, choose_exact, begin_exact, begin_any_exact, token_exact, optional_exact, bind_takes, bind_keeps, then_takes, still_keeps, pure_keeps, look_keeps, refuse_takes, token_takes, choose_keeps, begin_takes, begin_any_takes, begin_any_keeps, optional_keeps, token_begins, bind_begins, optional_begins, refuse_begins, begin_begins}
 use Rattle.wac_parser_grammar.proofs.ExactLists.{list_exact, list_keeps}
 use Rattle.std.proofs.Common.{inl, inr, sym, ap, ◌∙◌, subst}
 use Rattle.wac_parser_lexer.specs.Items.{Input}
@@ -259,6 +259,10 @@ func_type_exact = bind _ _ (optional_exact k.AsyncKeyword) (λ v0. bind _ _ (tok
 pub func_type_takes : Takes func_type
 unfolding func_type
 func_type_takes = then_takes _ _ (optional_keeps k.AsyncKeyword) (λ v0. bind_takes _ _ (token_takes k.FuncKeyword) (λ v1. bind_keeps _ _ (still_keeps _ (func_params_takes)) (λ v2. bind_keeps _ _ (func_results_keeps) (λ v3. pure_keeps _))))
+
+pub func_type_begins : Begins func_first func_type
+unfolding func_type
+func_type_begins = optional_begins k.AsyncKeyword (k.FuncKeyword ∷ []) _ (λ v0. bind_begins _ _ _ (token_begins k.FuncKeyword []))
 
 pub func_type_ref_exact : Exact func_type_ref
 unfolding func_type_ref

@@ -97,10 +97,15 @@ abbrev pub tried_all : List Token → Ahead → Ahead
 tried_all [] a = a
 tried_all (k ∷ ks) a = tried_all ks (tried k a)
 
--- whether one of these comes next; where none does, all were tried
+-- these were tried, up to the one that comes next, or all
+abbrev pub tried_until : List Token → Option Token → Ahead → Ahead
+tried_until [] t a = a
+tried_until (k ∷ ks) t a = if is_token k t then a else tried_until ks t (tried k a)
+
+-- whether one of these comes next; those before it were tried, and where none does, all
 pub record Tries (ks : List Token) (old : Ahead) (found : Bool) (new : Ahead) : Type 0 where
   pub value : found ≡ is_any ks (token_of old.next)
-  pub after : found ≡ false → new ≡ tried_all ks old
+  pub after : new ≡ tried_until ks (token_of old.next) old
 
 -- the fault that the attempts make, by how many there were
 abbrev pub by_attempts : ℕ → List (Option Token) → Option Token → SourceSpan → Fault

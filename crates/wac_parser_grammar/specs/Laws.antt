@@ -1,5 +1,5 @@
 -- What holds of the rules, for those who reason by them.
-use Rattle.std.specs.Prelude.{◌≡◌, ◌↔◌, ◌⊎◌, ℕ, suc, true, List, [], ◌∷◌, Some, None, Ok, Err, ◌<◌}
+use Rattle.std.specs.Prelude.{◌≡◌, ◌↔◌, ◌⊎◌, ℕ, suc, Bool, true, List, [], ◌∷◌, Some, None, Ok, Err, ◌<◌}
 use Rattle.wac_parser_lexer.specs.declared.span.SourceSpan.{SourceSpan}
 use Rattle.wac_parser_lexer.specs.declared.error.Error as lexer_error
 use Rattle.wac_parser_lexer.specs.declared.token.Token.{Token}
@@ -10,7 +10,9 @@ use Rattle.wac_parser_tree.specs.Trees as t
 use Rattle.wac_parser_grammar.specs.Faults.{Fault, lexer}
 use Rattle.wac_parser_grammar.specs.Ahead.{sees_any}
 use Rattle.wac_parser_grammar.specs.Standing.{Stands}
-use Rattle.wac_parser_grammar.specs.Rules.{Rule, left}
+use Rattle.wac_parser_grammar.specs.Places.{IsBehind}
+use Rattle.wac_parser_grammar.specs.Rules.{Rule, left, list_of, optional_of}
+use Rattle.wac_parser_grammar.specs.Rules as r
 use Rattle.wac_parser_grammar.specs.Reads.{read_source}
 use Rattle.wac_parser_grammar.specs.Names as n
 use Rattle.wac_parser_grammar.specs.ValueTypes as v
@@ -29,8 +31,10 @@ pub record IsBegun {X : Type 0} (first : List Token) (p : Rule X) : Type 0 where
   pub begins : (s : Input) (x : X) (r : Input) → p.Is x s r → sees_any first s ≡ true
   pub takes : (s : Input) (x : X) (r : Input) → p.Is x s r → left r < left s
 
--- the rules of all trees
+-- the rules of all trees, of a token, and of what stands behind a keyword that may have a payload
 pub record RulesAreExact : Type 0 where
+  pub token : (x : Token) → IsExact (r.token x)
+  pub payload : (start : SourceSpan) → IsExact (v.payload v.value_type start)
   pub docs : IsExact n.docs
   pub ident : IsExact n.ident
   pub string : IsExact n.string
@@ -38,6 +42,7 @@ pub record RulesAreExact : Type 0 where
   pub package_path : IsExact n.package_path
   pub value_type : IsExact v.value_type
   pub named_type : IsExact v.named_type
+  pub result_list : IsExact v.result_list
   pub func_type : IsExact v.func_type
   pub func_type_ref : IsExact v.func_type_ref
   pub argument_name : IsExact e.argument_name
@@ -97,8 +102,10 @@ pub record RulesAreExact : Type 0 where
 pub record TreesAreBegun : Type 0 where
   pub ident : IsBegun (k.Ident ∷ []) n.ident
   pub string : IsBegun (k.String ∷ []) n.string
+  pub package_path : IsBegun (k.PackagePath ∷ []) n.package_path
   pub value_type : IsBegun v.type_first v.value_type
   pub named_type : IsBegun (k.Ident ∷ []) v.named_type
+  pub func_type : IsBegun v.func_first v.func_type
   pub argument_name : IsBegun e.name_first e.argument_name
   pub access_expr : IsBegun (k.Dot ∷ []) e.access_expr
   pub named_access_expr : IsBegun (k.OpenBracket ∷ []) e.named_access_expr
@@ -151,16 +158,20 @@ IsDocument d source = (first_refused source ≡ None) × (end : Input) × (end.i
 abbrev pub DocumentsAreRead : Type 0
 DocumentsAreRead = (source : List ℕ) (d : t.Document) → (read_source s.document source ≡ Ok d) ↔ IsDocument d source
 
--- each fault that the rule meets, with room for so many levels, stands at the place, or behind items of it
-abbrev pub FaultsStandWithin : {X : Type 0} → ℕ → Rule X → Type 0
-FaultsStandWithin n p = (s : Input) (fault : Fault) → p.read s ≡ Err fault → Stands n s fault
+-- A value is read up to a place behind items of this one. Each fault that the rule meets, with room for so many levels, stands
+-- here or at such a place.
+pub record FaultsStandWithin {X : Type 0} (n : ℕ) (p : Rule X) : Type 0 where
+  pub goes_on : (s : Input) (x : X) (r : Input) → p.read s ≡ Ok (x, r) → IsBehind r s
+  pub stands : (s : Input) (fault : Fault) → p.read s ≡ Err fault → Stands n s fault
 
 -- the same with room for all levels
 abbrev pub FaultsStand : {X : Type 0} → Rule X → Type 0
 FaultsStand p = FaultsStandWithin 128 p
 
--- the faults of the rules of all trees
+-- the faults of the same rules
 pub record AllFaultsStand : Type 0 where
+  pub token : (x : Token) → FaultsStand (r.token x)
+  pub payload : (start : SourceSpan) → FaultsStand (v.payload v.value_type start)
   pub docs : FaultsStand n.docs
   pub ident : FaultsStand n.ident
   pub string : FaultsStand n.string
@@ -168,6 +179,7 @@ pub record AllFaultsStand : Type 0 where
   pub package_path : FaultsStand n.package_path
   pub value_type : FaultsStand v.value_type
   pub named_type : FaultsStand v.named_type
+  pub result_list : FaultsStand v.result_list
   pub func_type : FaultsStand v.func_type
   pub func_type_ref : FaultsStand v.func_type_ref
   pub argument_name : FaultsStand e.argument_name
@@ -231,3 +243,19 @@ StandsIn source fault = ((e : lexer_error.Error × SourceSpan) × (first_refused
 -- a source that is not read as a document has a fault that stands in it
 abbrev pub DocumentFaultsStand : Type 0
 DocumentFaultsStand = (source : List ℕ) (fault : Fault) → read_source s.document source ≡ Err fault → StandsIn source fault
+
+-- ---- rules made of another
+
+-- of values up to a token, each followed by a comma or not
+abbrev pub ListsAreExact : {X : Type 0} → List Token → Rule X → Type 0
+ListsAreExact first p = (until : Token) (commas : Bool) → IsExact (list_of p first until commas)
+
+abbrev pub ListFaultsStand : {X : Type 0} → List Token → Rule X → Type 0
+ListFaultsStand first p = (until : Token) (commas : Bool) → FaultsStand (list_of p first until commas)
+
+-- of a value behind a token, where that comes next
+abbrev pub OptionalsAreExact : {X : Type 0} → Rule X → Type 0
+OptionalsAreExact p = (x : Token) → IsExact (optional_of x p)
+
+abbrev pub OptionalFaultsStand : {X : Type 0} → Rule X → Type 0
+OptionalFaultsStand p = (x : Token) → FaultsStand (optional_of x p)

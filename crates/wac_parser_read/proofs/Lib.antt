@@ -1,1 +1,2 @@
+pub mod MadeOfParts
 pub mod Parsing

@@ -1,7 +1,7 @@
 //! Declarations of types.
 
 ghost use Rattle.wac_parser_grammar.specs.Places.{IsBehind};
-ghost use Rattle.std.specs.Prelude.{◌≡◌, ◌∷◌, [], ◌<◌, ◌≤◌, map, OnOk};
+ghost use Rattle.std.specs.Prelude.{◌≡◌, ◌∷◌, [], ◌<◌, ◌≤◌, true, map, OnOk};
 ghost use Rattle.std.specs.Option.{option_map};
 ghost use Rattle.wac_parser_lexer.specs.declared.token.Token.TheVariants as k;
 ghost use Rattle.wac_parser_tree.specs.Trees as t;
@@ -59,7 +59,8 @@ fn members<'a, T: Parse<'a> + Peek>(
     ty: DeclaredType,
     kind: MemberKind,
 ) -> ParseResult<Vec<T>>
-    requires { T.first ≡ k.Ident ∷ [] }
+    requires named { T.first ≡ k.Ident ∷ [] }
+    requires some { T.nonempty ≡ true }
     ensures value { Reads (λ v. map T.view v.items) (grammar.members T.rule ty kind) lexer.old result lexer.new }
     ensures takes { OnOk result (left lexer.new < left lexer.old) }
     ensures goes_on { IsBehind lexer.new lexer.old }
@@ -98,6 +99,8 @@ impl<'a> Parse<'a> for VariantCase<'a> {
 
     ghost rule = { grammar.variant_case };
 
+    ghost nonempty = { true };
+
     #[tactic(auto, using(wac_parser_terms::proofs::Places::places), unfolding(wac_parser_grammar::specs::Declarations::variant_case))]
     fn parse(alloc: Global, lexer: &mut Lexer<'a>) -> ParseResult<VariantCase<'a>> {
         let docs = doc_comments(alloc, lexer)?;
@@ -113,6 +116,8 @@ impl<'a> Parse<'a> for VariantDecl<'a> {
     ghost view = { view_variant_decl };
 
     ghost rule = { grammar.variant_decl };
+
+    ghost nonempty = { true };
 
     #[tactic(auto, using(wac_parser_terms::proofs::Places::places), unfolding(wac_parser_grammar::specs::Declarations::variant_decl, wac_parser_grammar::specs::Declarations::variant_cases))]
     fn parse(alloc: Global, lexer: &mut Lexer<'a>) -> ParseResult<VariantDecl<'a>> {
@@ -130,6 +135,8 @@ impl<'a> Parse<'a> for Field<'a> {
     ghost view = { view_field };
 
     ghost rule = { grammar.field };
+
+    ghost nonempty = { true };
 
     #[tactic(auto, using(wac_parser_terms::proofs::Places::places), unfolding(wac_parser_grammar::specs::Declarations::field))]
     fn parse(alloc: Global, lexer: &mut Lexer<'a>) -> ParseResult<Field<'a>> {
@@ -150,6 +157,8 @@ impl<'a> Parse<'a> for RecordDecl<'a> {
 
     ghost rule = { grammar.record_decl };
 
+    ghost nonempty = { true };
+
     #[tactic(auto, using(wac_parser_terms::proofs::Places::places), unfolding(wac_parser_grammar::specs::Declarations::record_decl, wac_parser_grammar::specs::Declarations::record_fields))]
     fn parse(alloc: Global, lexer: &mut Lexer<'a>) -> ParseResult<RecordDecl<'a>> {
         let docs = doc_comments(alloc, lexer)?;
@@ -167,6 +176,8 @@ impl<'a> Parse<'a> for Flag<'a> {
 
     ghost rule = { grammar.flag };
 
+    ghost nonempty = { true };
+
     #[tactic(auto, using(wac_parser_terms::proofs::Places::places), unfolding(wac_parser_grammar::specs::Declarations::flag))]
     fn parse(alloc: Global, lexer: &mut Lexer<'a>) -> ParseResult<Flag<'a>> {
         let docs = doc_comments(alloc, lexer)?;
@@ -181,6 +192,8 @@ impl<'a> Parse<'a> for FlagsDecl<'a> {
     ghost view = { view_flags_decl };
 
     ghost rule = { grammar.flags_decl };
+
+    ghost nonempty = { true };
 
     #[tactic(auto, using(wac_parser_terms::proofs::Places::places), unfolding(wac_parser_grammar::specs::Declarations::flags_decl, wac_parser_grammar::specs::Declarations::flags_members))]
     fn parse(alloc: Global, lexer: &mut Lexer<'a>) -> ParseResult<FlagsDecl<'a>> {
@@ -199,6 +212,8 @@ impl<'a> Parse<'a> for EnumCase<'a> {
 
     ghost rule = { grammar.enum_case };
 
+    ghost nonempty = { true };
+
     #[tactic(auto, using(wac_parser_terms::proofs::Places::places), unfolding(wac_parser_grammar::specs::Declarations::enum_case))]
     fn parse(alloc: Global, lexer: &mut Lexer<'a>) -> ParseResult<EnumCase<'a>> {
         let docs = doc_comments(alloc, lexer)?;
@@ -213,6 +228,8 @@ impl<'a> Parse<'a> for EnumDecl<'a> {
     ghost view = { view_enum_decl };
 
     ghost rule = { grammar.enum_decl };
+
+    ghost nonempty = { true };
 
     #[tactic(auto, using(wac_parser_terms::proofs::Places::places), unfolding(wac_parser_grammar::specs::Declarations::enum_decl, wac_parser_grammar::specs::Declarations::enum_cases))]
     fn parse(alloc: Global, lexer: &mut Lexer<'a>) -> ParseResult<EnumDecl<'a>> {
@@ -230,6 +247,8 @@ impl<'a> Parse<'a> for TypeAliasKind<'a> {
     ghost view = { view_type_alias_kind };
 
     ghost rule = { grammar.type_alias_kind };
+
+    ghost nonempty = { true };
 
     #[tactic(auto, using(wac_parser_terms::proofs::Places::places), unfolding(wac_parser_grammar::specs::Declarations::type_alias_kind))]
     fn parse(alloc: Global, lexer: &mut Lexer<'a>) -> ParseResult<TypeAliasKind<'a>> {
@@ -250,6 +269,8 @@ impl<'a> Parse<'a> for TypeAlias<'a> {
 
     ghost rule = { grammar.type_alias };
 
+    ghost nonempty = { true };
+
     #[tactic(auto, using(wac_parser_terms::proofs::Places::places), unfolding(wac_parser_grammar::specs::Declarations::type_alias))]
     fn parse(alloc: Global, lexer: &mut Lexer<'a>) -> ParseResult<TypeAlias<'a>> {
         let docs = doc_comments(alloc, lexer)?;
@@ -267,6 +288,8 @@ impl<'a> Parse<'a> for TypeDecl<'a> {
     ghost view = { view_type_decl };
 
     ghost rule = { grammar.type_decl };
+
+    ghost nonempty = { true };
 
     #[tactic(auto, using(wac_parser_terms::proofs::Places::places), unfolding(wac_parser_grammar::specs::Declarations::type_decl))]
     fn parse(alloc: Global, lexer: &mut Lexer<'a>) -> ParseResult<TypeDecl<'a>> {
@@ -295,6 +318,8 @@ impl<'a> Parse<'a> for ItemTypeDecl<'a> {
     ghost view = { view_item_type_decl };
 
     ghost rule = { grammar.item_type_decl };
+
+    ghost nonempty = { true };
 
     #[tactic(auto, using(wac_parser_terms::proofs::Places::places), unfolding(wac_parser_grammar::specs::Declarations::item_type_decl))]
     fn parse(alloc: Global, lexer: &mut Lexer<'a>) -> ParseResult<ItemTypeDecl<'a>> {

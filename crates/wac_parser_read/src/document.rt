@@ -1,6 +1,6 @@
 //! Documents.
 
-ghost use Rattle.std.specs.Prelude.{◌≡◌, ◌<◌, ◌≤◌, OnOk};
+ghost use Rattle.std.specs.Prelude.{◌≡◌, ◌≢◌, ◌<◌, ◌≤◌, true, IfErr, OnOk};
 ghost use Rattle.wac_parser_terms.specs.Views.{view_all};
 ghost use Rattle.wac_parser_grammar.specs.Rules.{all_of};
 ghost use Rattle.wac_parser_tree.specs.Trees as t;
@@ -8,11 +8,14 @@ ghost use Rattle.wac_parser_tree.specs.Views.{view_type_statement, view_statemen
 ghost use Rattle.wac_parser_grammar.specs.Rules.{Rule, left};
 ghost use Rattle.wac_parser_grammar.specs.Reads.{Reads, ReadsSource};
 ghost use Rattle.wac_parser_grammar.specs.Documents as grammar;
+ghost use Rattle.wac_parser_grammar.specs.Faults.{fault_of};
+ghost use Rattle.wac_parser_grammar.specs.Laws.{StandsIn};
+ghost use Rattle.wac_parser_grammar.specs.declared.error.Error.TheVariants.{Memory};
 ghost use Rattle.wac_parser_read.specs.Parsing.{Parses};
 
 use crate::parse::{Parse, parse_optional};
 use std::alloc::Global;
-use wac_parser_grammar::{Error, ParseResult, documents_are_their_forms};
+use wac_parser_grammar::{Error, ParseResult, document_faults_stand, documents_are_their_forms};
 use wac_parser_lexer::{Lexer, Token};
 use wac_parser_terms::{
     STATEMENT_FIRST, TYPE_DECL_FIRST, TYPE_STATEMENT_FIRST, doc_comments, none_of, parse_token,
@@ -29,6 +32,8 @@ impl<'a> Parse<'a> for TypeStatement<'a> {
     ghost view = { view_type_statement };
 
     ghost rule = { grammar.type_statement };
+
+    ghost nonempty = { true };
 
     #[tactic(auto, using(wac_parser_terms::proofs::Places::places), unfolding(wac_parser_grammar::specs::Documents::type_statement))]
     fn parse(alloc: Global, lexer: &mut Lexer<'a>) -> ParseResult<TypeStatement<'a>> {
@@ -51,6 +56,8 @@ impl<'a> Parse<'a> for Statement<'a> {
     ghost view = { view_statement };
 
     ghost rule = { grammar.statement };
+
+    ghost nonempty = { true };
 
     #[tactic(auto, using(wac_parser_terms::proofs::Places::places), unfolding(wac_parser_grammar::specs::Documents::statement))]
     fn parse(alloc: Global, lexer: &mut Lexer<'a>) -> ParseResult<Statement<'a>> {
@@ -76,6 +83,8 @@ impl<'a> Parse<'a> for PackageDirective<'a> {
     ghost view = { view_package_directive };
 
     ghost rule = { grammar.package_directive };
+
+    ghost nonempty = { true };
 
     #[tactic(auto, using(wac_parser_terms::proofs::Places::places), unfolding(wac_parser_grammar::specs::Documents::package_directive, wac_parser_grammar::specs::Documents::targets))]
     fn parse(alloc: Global, lexer: &mut Lexer<'a>) -> ParseResult<PackageDirective<'a>> {
@@ -146,8 +155,10 @@ impl<'a> ParseDocument<'a> for Document<'a> {
     fn parse(alloc: Global, source: &'a str) -> ParseResult<Document<'a>>
         ensures read { ReadsSource view_document grammar.document source.now result }
         ensures parsed { Parses source.now result }
+        ensures stands { IfErr result (λ e. e ≢ Memory → StandsIn source.now (fault_of e)) }
     {
         documents_are_their_forms();
+        document_faults_stand();
         whole_document(alloc, source)
     }
 }

@@ -2,7 +2,7 @@
 #![tactic(auto, using(wac_parser_terms::proofs::Places::places))]
 
 ghost use Rattle.wac_parser_grammar.specs.Places.{IsBehind};
-ghost use Rattle.std.specs.Prelude.{◌≡◌, ◌<◌, ◌≤◌, OnOk};
+ghost use Rattle.std.specs.Prelude.{◌≡◌, ◌<◌, ◌≤◌, true, OnOk};
 ghost use Rattle.wac_parser_tree.specs.Trees as t;
 ghost use Rattle.wac_parser_tree.specs.Views.{view_expr, view_primary_expr, view_new_expr, view_nested_expr, view_instantiation_argument, view_named_instantiation_argument, view_instantiation_argument_name, view_access_expr, view_named_access_expr};
 ghost use Rattle.wac_parser_grammar.specs.Expressions as grammar;
@@ -27,6 +27,8 @@ impl<'a> Parse<'a> for Expr<'a> {
 
     ghost rule = { grammar.expression };
 
+    ghost nonempty = { true };
+
     #[tactic(auto, using(wac_parser_terms::proofs::Places::places), unfolding(wac_parser_grammar::specs::Expressions::expression))]
     fn parse(alloc: Global, lexer: &mut Lexer<'a>) -> ParseResult<Expr<'a>> {
         expr_within(alloc, lexer, MAX_LEVELS)
@@ -40,6 +42,8 @@ impl<'a> Parse<'a> for PrimaryExpr<'a> {
 
     ghost rule = { grammar.primary_expr (grammar.expr 127) };
 
+    ghost nonempty = { true };
+
     fn parse(alloc: Global, lexer: &mut Lexer<'a>) -> ParseResult<PrimaryExpr<'a>> {
         primary_expr(alloc, lexer, MAX_LEVELS - 1)
     }
@@ -51,6 +55,8 @@ impl<'a> Parse<'a> for NewExpr<'a> {
     ghost view = { view_new_expr };
 
     ghost rule = { grammar.new_expr (grammar.expr 127) };
+
+    ghost nonempty = { true };
 
     fn parse(alloc: Global, lexer: &mut Lexer<'a>) -> ParseResult<NewExpr<'a>> {
         new_expr(alloc, lexer, MAX_LEVELS - 1)
@@ -64,6 +70,8 @@ impl<'a> Parse<'a> for NestedExpr<'a> {
 
     ghost rule = { grammar.nested_expr (grammar.expr 127) };
 
+    ghost nonempty = { true };
+
     fn parse(alloc: Global, lexer: &mut Lexer<'a>) -> ParseResult<NestedExpr<'a>> {
         nested_expr(alloc, lexer, MAX_LEVELS - 1)
     }
@@ -76,6 +84,8 @@ impl<'a> Parse<'a> for InstantiationArgument<'a> {
 
     ghost rule = { grammar.instantiation_argument (grammar.expr 127) };
 
+    ghost nonempty = { true };
+
     fn parse(alloc: Global, lexer: &mut Lexer<'a>) -> ParseResult<InstantiationArgument<'a>> {
         instantiation_argument(alloc, lexer, MAX_LEVELS - 1)
     }
@@ -87,6 +97,8 @@ impl<'a> Parse<'a> for NamedInstantiationArgument<'a> {
     ghost view = { view_named_instantiation_argument };
 
     ghost rule = { grammar.named_argument (grammar.expr 127) };
+
+    ghost nonempty = { true };
 
     #[tactic(auto, using(wac_parser_terms::proofs::Places::places), unfolding(wac_parser_grammar::specs::Expressions::named_argument))]
     fn parse(alloc: Global, lexer: &mut Lexer<'a>) -> ParseResult<NamedInstantiationArgument<'a>> {
@@ -101,6 +113,8 @@ impl<'a> Parse<'a> for InstantiationArgumentName<'a> {
     ghost view = { view_instantiation_argument_name };
 
     ghost rule = { grammar.argument_name };
+
+    ghost nonempty = { true };
 
     #[tactic(auto, using(wac_parser_terms::proofs::Places::places), unfolding(wac_parser_grammar::specs::Expressions::argument_name))]
     fn parse(alloc: Global, lexer: &mut Lexer<'a>) -> ParseResult<InstantiationArgumentName<'a>> {
@@ -121,6 +135,8 @@ impl<'a> Parse<'a> for AccessExpr<'a> {
 
     ghost rule = { grammar.access_expr };
 
+    ghost nonempty = { true };
+
     fn parse(_alloc: Global, lexer: &mut Lexer<'a>) -> ParseResult<AccessExpr<'a>> {
         access_expr(lexer)
     }
@@ -132,6 +148,8 @@ impl<'a> Parse<'a> for NamedAccessExpr<'a> {
     ghost view = { view_named_access_expr };
 
     ghost rule = { grammar.named_access_expr };
+
+    ghost nonempty = { true };
 
     fn parse(_alloc: Global, lexer: &mut Lexer<'a>) -> ParseResult<NamedAccessExpr<'a>> {
         named_access_expr(lexer)

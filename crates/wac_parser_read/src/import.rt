@@ -1,6 +1,6 @@
 //! Imports.
 
-ghost use Rattle.std.specs.Prelude.{◌≡◌, ◌<◌, ◌≤◌, OnOk};
+ghost use Rattle.std.specs.Prelude.{◌≡◌, ◌<◌, ◌≤◌, true, OnOk};
 ghost use Rattle.wac_parser_tree.specs.Trees as t;
 ghost use Rattle.wac_parser_tree.specs.Views.{view_extern_name, view_import_type, view_import_statement};
 ghost use Rattle.wac_parser_grammar.specs.Documents as grammar;
@@ -32,6 +32,8 @@ impl<'a> Parse<'a> for ExternName<'a> {
 
     ghost rule = { grammar.extern_name };
 
+    ghost nonempty = { true };
+
     #[tactic(auto, using(wac_parser_terms::proofs::Places::places), unfolding(wac_parser_grammar::specs::Documents::extern_name))]
     fn parse(alloc: Global, lexer: &mut Lexer<'a>) -> ParseResult<ExternName<'a>> {
         if sees(lexer, Token::Ident) {
@@ -50,6 +52,8 @@ impl<'a> Parse<'a> for ImportType<'a> {
     ghost view = { view_import_type };
 
     ghost rule = { grammar.import_type };
+
+    ghost nonempty = { true };
 
     #[tactic(auto, using(wac_parser_terms::proofs::Places::places), unfolding(wac_parser_grammar::specs::Documents::import_type))]
     fn parse(alloc: Global, lexer: &mut Lexer<'a>) -> ParseResult<ImportType<'a>> {
@@ -75,6 +79,8 @@ impl<'a> Parse<'a> for ImportStatement<'a> {
     ghost view = { view_import_statement };
 
     ghost rule = { grammar.import_statement };
+
+    ghost nonempty = { true };
 
     #[tactic(auto, using(wac_parser_terms::proofs::Places::places), unfolding(wac_parser_grammar::specs::Documents::import_statement, wac_parser_grammar::specs::Documents::import_name))]
     fn parse(alloc: Global, lexer: &mut Lexer<'a>) -> ParseResult<ImportStatement<'a>> {

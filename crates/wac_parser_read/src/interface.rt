@@ -1,6 +1,6 @@
 //! Interfaces.
 
-ghost use Rattle.std.specs.Prelude.{◌≡◌, ◌<◌, ◌≤◌, OnOk};
+ghost use Rattle.std.specs.Prelude.{◌≡◌, ◌<◌, ◌≤◌, true, OnOk};
 ghost use Rattle.wac_parser_tree.specs.Trees as t;
 ghost use Rattle.wac_parser_tree.specs.Views.{view_use_path, view_use_item, view_use, view_interface_export, view_interface_item, view_interface_decl, view_inline_interface};
 ghost use Rattle.wac_parser_grammar.specs.Worlds as grammar;
@@ -25,6 +25,8 @@ impl<'a> Parse<'a> for UsePath<'a> {
 
     ghost rule = { grammar.use_path };
 
+    ghost nonempty = { true };
+
     #[tactic(auto, using(wac_parser_terms::proofs::Places::places), unfolding(wac_parser_grammar::specs::Worlds::use_path))]
     fn parse(alloc: Global, lexer: &mut Lexer<'a>) -> ParseResult<UsePath<'a>> {
         if sees(lexer, Token::PackagePath) {
@@ -44,6 +46,8 @@ impl<'a> Parse<'a> for UseItem<'a> {
 
     ghost rule = { grammar.use_item };
 
+    ghost nonempty = { true };
+
     #[tactic(auto, using(wac_parser_terms::proofs::Places::places), unfolding(wac_parser_grammar::specs::Worlds::use_item, wac_parser_grammar::specs::Worlds::use_as))]
     fn parse(alloc: Global, lexer: &mut Lexer<'a>) -> ParseResult<UseItem<'a>> {
         let id = ident(lexer)?;
@@ -58,6 +62,8 @@ impl<'a> Parse<'a> for Use<'a> {
     ghost view = { view_use };
 
     ghost rule = { grammar.use_types };
+
+    ghost nonempty = { true };
 
     #[tactic(auto, using(wac_parser_terms::proofs::Places::places), unfolding(wac_parser_grammar::specs::Worlds::use_types, wac_parser_grammar::specs::Worlds::use_items))]
     fn parse(alloc: Global, lexer: &mut Lexer<'a>) -> ParseResult<Use<'a>> {
@@ -78,6 +84,8 @@ impl<'a> Parse<'a> for InterfaceExport<'a> {
 
     ghost rule = { grammar.interface_export };
 
+    ghost nonempty = { true };
+
     #[tactic(auto, using(wac_parser_terms::proofs::Places::places), unfolding(wac_parser_grammar::specs::Worlds::interface_export))]
     fn parse(alloc: Global, lexer: &mut Lexer<'a>) -> ParseResult<InterfaceExport<'a>> {
         let docs = doc_comments(alloc, lexer)?;
@@ -94,6 +102,8 @@ impl<'a> Parse<'a> for InterfaceItem<'a> {
     ghost view = { view_interface_item };
 
     ghost rule = { grammar.interface_item };
+
+    ghost nonempty = { true };
 
     #[tactic(auto, using(wac_parser_terms::proofs::Places::places), unfolding(wac_parser_grammar::specs::Worlds::interface_item))]
     fn parse(alloc: Global, lexer: &mut Lexer<'a>) -> ParseResult<InterfaceItem<'a>> {
@@ -118,6 +128,8 @@ impl<'a> Parse<'a> for InterfaceDecl<'a> {
 
     ghost rule = { grammar.interface_decl };
 
+    ghost nonempty = { true };
+
     #[tactic(auto, using(wac_parser_terms::proofs::Places::places), unfolding(wac_parser_grammar::specs::Worlds::interface_decl, wac_parser_grammar::specs::Worlds::interface_items))]
     fn parse(alloc: Global, lexer: &mut Lexer<'a>) -> ParseResult<InterfaceDecl<'a>> {
         let docs = doc_comments(alloc, lexer)?;
@@ -134,6 +146,8 @@ impl<'a> Parse<'a> for InlineInterface<'a> {
     ghost view = { view_inline_interface };
 
     ghost rule = { grammar.inline_interface };
+
+    ghost nonempty = { true };
 
     #[tactic(auto, using(wac_parser_terms::proofs::Places::places), unfolding(wac_parser_grammar::specs::Worlds::inline_interface, wac_parser_grammar::specs::Worlds::interface_items))]
     fn parse(alloc: Global, lexer: &mut Lexer<'a>) -> ParseResult<InlineInterface<'a>> {

@@ -1,6 +1,6 @@
 //! Names for expressions.
 
-ghost use Rattle.std.specs.Prelude.{◌≡◌, ◌<◌, ◌≤◌, OnOk};
+ghost use Rattle.std.specs.Prelude.{◌≡◌, ◌<◌, ◌≤◌, true, OnOk};
 ghost use Rattle.wac_parser_tree.specs.Trees as t;
 ghost use Rattle.wac_parser_tree.specs.Views.{view_let_statement};
 ghost use Rattle.wac_parser_grammar.specs.Rules.{left};
@@ -20,6 +20,8 @@ impl<'a> Parse<'a> for LetStatement<'a> {
     ghost view = { view_let_statement };
 
     ghost rule = { grammar.let_statement };
+
+    ghost nonempty = { true };
 
     #[tactic(auto, using(wac_parser_terms::proofs::Places::places), unfolding(wac_parser_grammar::specs::Documents::let_statement))]
     fn parse(alloc: Global, lexer: &mut Lexer<'a>) -> ParseResult<LetStatement<'a>> {

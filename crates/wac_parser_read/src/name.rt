@@ -2,17 +2,31 @@
 #![tactic(auto, using(wac_parser_terms::proofs::Places::places))]
 
 ghost use Rattle.wac_parser_grammar.specs.Places.{IsBehind};
-ghost use Rattle.std.specs.Prelude.{◌≡◌, ◌<◌, ◌≤◌, OnOk};
+ghost use Rattle.std.specs.Prelude.{◌≡◌, ◌<◌, ◌≤◌, List, true, false, map, OnOk};
 ghost use Rattle.wac_parser_tree.specs.Trees as t;
-ghost use Rattle.wac_parser_tree.specs.Views.{view_ident, view_string, view_package_name, view_package_path};
+ghost use Rattle.wac_parser_tree.specs.Views.{view_doc_comment, view_ident, view_string, view_package_name, view_package_path};
 ghost use Rattle.wac_parser_grammar.specs.Names as grammar;
 
 use crate::parse::Parse;
 use std::alloc::Global;
 use wac_parser_grammar::ParseResult;
 use wac_parser_lexer::{Lexer, Token};
-use wac_parser_terms::{ident, package_name, package_path, string};
-use wac_parser_tree::{Ident, PackageName, PackagePath, String};
+use wac_parser_terms::{doc_comments, ident, package_name, package_path, string};
+use wac_parser_tree::{DocComment, Ident, PackageName, PackagePath, String};
+
+impl<'a> Parse<'a> for Vec<DocComment<'a>> {
+    ghost Plain = { List t.DocComment };
+
+    ghost view = { λ v. map view_doc_comment v.items };
+
+    ghost rule = { grammar.docs };
+
+    ghost nonempty = { false };
+
+    fn parse(alloc: Global, lexer: &mut Lexer<'a>) -> ParseResult<Vec<DocComment<'a>>> {
+        doc_comments(alloc, lexer)
+    }
+}
 
 impl<'a> Parse<'a> for Ident<'a> {
     ghost Plain = { t.Ident };
@@ -20,6 +34,8 @@ impl<'a> Parse<'a> for Ident<'a> {
     ghost view = { view_ident };
 
     ghost rule = { grammar.ident };
+
+    ghost nonempty = { true };
 
     fn parse(_alloc: Global, lexer: &mut Lexer<'a>) -> ParseResult<Ident<'a>> {
         ident(lexer)
@@ -33,6 +49,8 @@ impl<'a> Parse<'a> for String<'a> {
 
     ghost rule = { grammar.string };
 
+    ghost nonempty = { true };
+
     fn parse(_alloc: Global, lexer: &mut Lexer<'a>) -> ParseResult<String<'a>> {
         string(lexer)
     }
@@ -45,6 +63,8 @@ impl<'a> Parse<'a> for PackageName<'a> {
 
     ghost rule = { grammar.package_name };
 
+    ghost nonempty = { true };
+
     fn parse(alloc: Global, lexer: &mut Lexer<'a>) -> ParseResult<PackageName<'a>> {
         package_name(alloc, lexer)
     }
@@ -56,6 +76,8 @@ impl<'a> Parse<'a> for PackagePath<'a> {
     ghost view = { view_package_path };
 
     ghost rule = { grammar.package_path };
+
+    ghost nonempty = { true };
 
     fn parse(alloc: Global, lexer: &mut Lexer<'a>) -> ParseResult<PackagePath<'a>> {
         package_path(alloc, lexer)

@@ -10,6 +10,7 @@ ghost use Rattle.wac_parser_grammar.specs.Rules.{Rule, left, list_of, optional_o
 ghost use Rattle.std.specs.Option.{option_map};
 ghost use Rattle.wac_parser_grammar.specs.Reads.{Reads};
 ghost use Rattle.wac_parser_grammar.specs.Declarations.{body};
+ghost use Rattle.wac_parser_read.specs.Parsing.{LeavesFewer};
 
 use std::alloc::Global;
 use wac_parser_grammar::{Error, ParseResult};
@@ -26,10 +27,13 @@ pub trait Parse<'a>: Sized + Drop {
     /// How such a part is written.
     ghost rule: { Rule Plain };
 
+    /// Whether each such part has at least one item.
+    ghost nonempty: { Bool };
+
     /// Takes the items of such a part.
     fn parse(alloc: Global, lexer: &mut Lexer<'a>) -> ParseResult<Self>
         ensures value { Reads view rule lexer.old result lexer.new }
-        ensures takes { OnOk result (left lexer.new < left lexer.old) }
+        ensures takes { OnOk result (LeavesFewer nonempty lexer.new lexer.old) }
         ensures goes_on { IsBehind lexer.new lexer.old };
 }
 
@@ -48,13 +52,14 @@ pub(crate) fn expect_value<T: Peek>(lexer: &Lexer<'_>, until: Token) -> ParseRes
     Err(lookahead.error())
 }
 
-/// The values up to a token, each followed by a comma or not; one behind the last may be left out.
+/// The values up to a token, each followed by a comma or not; one behind the last may be left out. Each takes an item.
 pub fn parse_delimited<'a, T: Parse<'a> + Peek>(
     alloc: Global,
     lexer: &mut Lexer<'a>,
     until: Token,
     with_commas: bool,
 ) -> ParseResult<Vec<T>>
+    requires some { T.nonempty ≡ true }
     ensures value { Reads (λ v. map T.view v.items) (list_of T.rule T.first until with_commas) lexer.old result lexer.new }
     ensures keeps { OnOk result (left lexer.new ≤ left lexer.old) }
     ensures goes_on { IsBehind lexer.new lexer.old }
@@ -74,6 +79,7 @@ pub(crate) fn braced<'a, T: Parse<'a> + Peek>(
     lexer: &mut Lexer<'a>,
     with_commas: bool,
 ) -> ParseResult<Vec<T>>
+    requires some { T.nonempty ≡ true }
     ensures value { Reads (λ v. map T.view v.items) (body T.rule T.first with_commas) lexer.old result lexer.new }
     ensures takes { OnOk result (left lexer.new < left lexer.old) }
     ensures goes_on { IsBehind lexer.new lexer.old }

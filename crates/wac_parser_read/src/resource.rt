@@ -1,7 +1,8 @@
 //! Declarations of resources.
 
+ghost use Rattle.wac_parser_grammar.specs.declared.error.Error.TheVariants.{Memory};
 ghost use Rattle.wac_parser_grammar.specs.Places.{IsBehind};
-ghost use Rattle.std.specs.Prelude.{◌≡◌, ◌<◌, ◌≤◌, OnOk};
+ghost use Rattle.std.specs.Prelude.{◌≡◌, ◌≢◌, ◌<◌, ◌≤◌, true, IfErr, OnOk};
 ghost use Rattle.wac_parser_tree.specs.Trees as t;
 ghost use Rattle.wac_parser_tree.specs.Views.{view_constructor, view_method, view_resource_method, view_resource_decl};
 ghost use Rattle.wac_parser_terms.specs.Views.{view_all};
@@ -25,6 +26,8 @@ impl<'a> Parse<'a> for Constructor<'a> {
 
     ghost rule = { grammar.constructor };
 
+    ghost nonempty = { true };
+
     #[tactic(auto, using(wac_parser_terms::proofs::Places::places), unfolding(wac_parser_grammar::specs::Declarations::constructor))]
     fn parse(alloc: Global, lexer: &mut Lexer<'a>) -> ParseResult<Constructor<'a>> {
         let docs = doc_comments(alloc, lexer)?;
@@ -41,6 +44,7 @@ fn static_mark(lexer: &mut Lexer<'_>) -> ParseResult<bool>
     ensures value { Reads (λ x. x) grammar.static_mark lexer.old result lexer.new }
     ensures keeps { OnOk result (left lexer.new ≤ left lexer.old) }
     ensures goes_on { IsBehind lexer.new lexer.old }
+    ensures told { IfErr result (λ e. e ≢ Memory) }
 {
     if !sees(lexer, Token::StaticKeyword) {
         return Ok(false);
@@ -55,6 +59,8 @@ impl<'a> Parse<'a> for Method<'a> {
     ghost view = { view_method };
 
     ghost rule = { grammar.method };
+
+    ghost nonempty = { true };
 
     #[tactic(auto, using(wac_parser_terms::proofs::Places::places), unfolding(wac_parser_grammar::specs::Declarations::method))]
     fn parse(alloc: Global, lexer: &mut Lexer<'a>) -> ParseResult<Method<'a>> {
@@ -78,6 +84,8 @@ impl<'a> Parse<'a> for ResourceMethod<'a> {
     ghost view = { view_resource_method };
 
     ghost rule = { grammar.resource_method };
+
+    ghost nonempty = { true };
 
     #[tactic(auto, using(wac_parser_terms::proofs::Places::places), unfolding(wac_parser_grammar::specs::Declarations::resource_method))]
     fn parse(alloc: Global, lexer: &mut Lexer<'a>) -> ParseResult<ResourceMethod<'a>> {
@@ -117,6 +125,8 @@ impl<'a> Parse<'a> for ResourceDecl<'a> {
     ghost view = { view_resource_decl };
 
     ghost rule = { grammar.resource_decl };
+
+    ghost nonempty = { true };
 
     #[tactic(auto, using(wac_parser_terms::proofs::Places::places), unfolding(wac_parser_grammar::specs::Declarations::resource_decl))]
     fn parse(alloc: Global, lexer: &mut Lexer<'a>) -> ParseResult<ResourceDecl<'a>> {

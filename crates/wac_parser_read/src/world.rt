@@ -1,7 +1,7 @@
 //! Worlds.
 
 ghost use Rattle.wac_parser_grammar.specs.Places.{IsBehind};
-ghost use Rattle.std.specs.Prelude.{◌≡◌, ◌<◌, ◌≤◌, OnOk};
+ghost use Rattle.std.specs.Prelude.{◌≡◌, ◌<◌, ◌≤◌, true, OnOk};
 ghost use Rattle.wac_parser_tree.specs.Trees as t;
 ghost use Rattle.wac_parser_tree.specs.Views.{view_ident, view_extern_type, view_named_world_item, view_world_item_path, view_world_import, view_world_export, view_world_ref, view_world_include_item, view_world_include, view_world_item, view_world_decl};
 ghost use Rattle.wac_parser_terms.specs.Views.{view_all};
@@ -37,6 +37,8 @@ impl<'a> Parse<'a> for ExternType<'a> {
     ghost view = { view_extern_type };
 
     ghost rule = { grammar.extern_type };
+
+    ghost nonempty = { true };
 
     #[tactic(auto, using(wac_parser_terms::proofs::Places::places), unfolding(wac_parser_grammar::specs::Worlds::extern_type))]
     fn parse(alloc: Global, lexer: &mut Lexer<'a>) -> ParseResult<ExternType<'a>> {
@@ -76,6 +78,8 @@ impl<'a> Parse<'a> for NamedWorldItem<'a> {
 
     ghost rule = { grammar.named_world_item };
 
+    ghost nonempty = { true };
+
     #[tactic(auto, using(wac_parser_terms::proofs::Places::places), unfolding(wac_parser_grammar::specs::Worlds::named_world_item))]
     fn parse(alloc: Global, lexer: &mut Lexer<'a>) -> ParseResult<NamedWorldItem<'a>> {
         let id = ident(lexer)?;
@@ -104,6 +108,8 @@ impl<'a> Parse<'a> for WorldItemPath<'a> {
 
     ghost rule = { grammar.world_item_path };
 
+    ghost nonempty = { true };
+
     #[tactic(auto, using(wac_parser_terms::proofs::Places::places), unfolding(wac_parser_grammar::specs::Worlds::world_item_path))]
     fn parse(alloc: Global, lexer: &mut Lexer<'a>) -> ParseResult<WorldItemPath<'a>> {
         if sees(lexer, Token::PackagePath) {
@@ -123,6 +129,8 @@ impl<'a> Parse<'a> for WorldImport<'a> {
 
     ghost rule = { grammar.world_import };
 
+    ghost nonempty = { true };
+
     #[tactic(auto, using(wac_parser_terms::proofs::Places::places), unfolding(wac_parser_grammar::specs::Worlds::world_import))]
     fn parse(alloc: Global, lexer: &mut Lexer<'a>) -> ParseResult<WorldImport<'a>> {
         let docs = doc_comments(alloc, lexer)?;
@@ -139,6 +147,8 @@ impl<'a> Parse<'a> for WorldExport<'a> {
 
     ghost rule = { grammar.world_export };
 
+    ghost nonempty = { true };
+
     #[tactic(auto, using(wac_parser_terms::proofs::Places::places), unfolding(wac_parser_grammar::specs::Worlds::world_export))]
     fn parse(alloc: Global, lexer: &mut Lexer<'a>) -> ParseResult<WorldExport<'a>> {
         let docs = doc_comments(alloc, lexer)?;
@@ -154,6 +164,8 @@ impl<'a> Parse<'a> for WorldRef<'a> {
     ghost view = { view_world_ref };
 
     ghost rule = { grammar.world_ref };
+
+    ghost nonempty = { true };
 
     #[tactic(auto, using(wac_parser_terms::proofs::Places::places), unfolding(wac_parser_grammar::specs::Worlds::world_ref))]
     fn parse(alloc: Global, lexer: &mut Lexer<'a>) -> ParseResult<WorldRef<'a>> {
@@ -173,6 +185,8 @@ impl<'a> Parse<'a> for WorldIncludeItem<'a> {
     ghost view = { view_world_include_item };
 
     ghost rule = { grammar.world_include_item };
+
+    ghost nonempty = { true };
 
     #[tactic(auto, using(wac_parser_terms::proofs::Places::places), unfolding(wac_parser_grammar::specs::Worlds::world_include_item))]
     fn parse(_alloc: Global, lexer: &mut Lexer<'a>) -> ParseResult<WorldIncludeItem<'a>> {
@@ -203,6 +217,8 @@ impl<'a> Parse<'a> for WorldInclude<'a> {
 
     ghost rule = { grammar.world_include };
 
+    ghost nonempty = { true };
+
     #[tactic(auto, using(wac_parser_terms::proofs::Places::places), unfolding(wac_parser_grammar::specs::Worlds::world_include))]
     fn parse(alloc: Global, lexer: &mut Lexer<'a>) -> ParseResult<WorldInclude<'a>> {
         let docs = doc_comments(alloc, lexer)?;
@@ -220,6 +236,8 @@ impl<'a> Parse<'a> for WorldItem<'a> {
     ghost view = { view_world_item };
 
     ghost rule = { grammar.world_item };
+
+    ghost nonempty = { true };
 
     #[tactic(auto, using(wac_parser_terms::proofs::Places::places), unfolding(wac_parser_grammar::specs::Worlds::world_item))]
     fn parse(alloc: Global, lexer: &mut Lexer<'a>) -> ParseResult<WorldItem<'a>> {
@@ -248,6 +266,8 @@ impl<'a> Parse<'a> for WorldDecl<'a> {
     ghost view = { view_world_decl };
 
     ghost rule = { grammar.world_decl };
+
+    ghost nonempty = { true };
 
     #[tactic(auto, using(wac_parser_terms::proofs::Places::places), unfolding(wac_parser_grammar::specs::Worlds::world_decl, wac_parser_grammar::specs::Worlds::world_items))]
     fn parse(alloc: Global, lexer: &mut Lexer<'a>) -> ParseResult<WorldDecl<'a>> {

@@ -45,6 +45,7 @@ pub mod Stating
 pub mod Asking
 pub mod Importing
 pub mod Declaring
+pub mod Definable
 pub mod Behind
 pub mod Meeting
 pub mod MeetingUses

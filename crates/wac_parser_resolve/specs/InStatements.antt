@@ -139,7 +139,15 @@ abbrev pub noted_export : List (ℕ × Span) → Span → Option ℕ → Span
 noted_export noted s None = s
 noted_export noted s (Some k) = unwrap_or (last_noted noted k) s
 
--- why there is no such definition; what is declared is new and no resource
+-- it is a fault of the name, or want of memory: what is declared is new and no resource
+abbrev pub IsOfName : DefineTypeError → Type 0
+IsOfName DefineTypeError.TypeAlreadyDefined = ⊥
+IsOfName DefineTypeError.CannotDefineResource = ⊥
+IsOfName (DefineTypeError.InvalidExternName m e) = Unit {0}
+IsOfName (DefineTypeError.ExportConflict m) = Unit {0}
+IsOfName DefineTypeError.Memory = Unit {0}
+
+-- why there is no such definition
 abbrev pub definition_cause : Graph → List (ℕ × Span) → t.Ident → DefineTypeError → Option Cause
 definition_cause g noted i (DefineTypeError.ExportConflict m) =
     at_place (DeclarationConflict (string_bytes m) (noted_export noted i.span (value_at g.exports i.string))) i.span

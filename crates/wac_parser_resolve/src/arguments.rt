@@ -384,11 +384,13 @@ fn first_missing<'a>(imports: &'a [String], given: &Vec<Given>) -> Option<&'a st
 fn missing_argument(alloc: Global, name: &str, package: &PackageName<'_>) -> Refusal
     ensures { Refuses result (MissingInstantiationArg name.now «package».now.string.now) «package».now.span }
 {
-    let Ok(name) = String::from_str(alloc, name) else {
-        return Refusal::Memory;
+    let name = match String::from_str(alloc, name) {
+        Ok(name) => name,
+        Err(AllocError) => return Refusal::Memory,
     };
-    let Ok(text) = String::from_str(alloc, package.string) else {
-        return Refusal::Memory;
+    let text = match String::from_str(alloc, package.string) {
+        Ok(text) => text,
+        Err(AllocError) => return Refusal::Memory,
     };
     let fault = Error::MissingInstantiationArg {
         name,

@@ -93,8 +93,9 @@ fn export_conflict(
 ) -> Refusal
     ensures { Refuses result (ExportConflict name.entry.text.now word.now definition name.entry.is_helped) name.entry.span }
 {
-    let Ok(text) = String::from_str(alloc, name.text) else {
-        return Refusal::Memory;
+    let text = match String::from_str(alloc, name.text) {
+        Ok(text) => text,
+        Err(AllocError) => return Refusal::Memory,
     };
     let fault = Error::ExportConflict {
         name: text,

@@ -6,12 +6,13 @@ ghost use Rattle.std.specs.Prelude.{◌≡◌, IfOk, OnOk, unwrap_or};
 ghost use Rattle.wac_types_base.specs.declared.item.ItemKind.{ItemKind};
 ghost use Rattle.wac_types_base.specs.Collection.{Stands};
 ghost use Rattle.wac_graph_core.specs.Graph.{ContainsNode};
+ghost use Rattle.wac_graph_core.specs.Defining.{IsDefinable};
 ghost use Rattle.wac_parser_declare.specs.Holding.{NamesStand};
 ghost use Rattle.wac_parser_refusals.specs.Views.{cause_of};
 ghost use Rattle.wac_parser_tree.specs.Trees as t;
 ghost use Rattle.wac_parser_tree.specs.Views.{view_export_statement, view_ident, view_import_statement, view_let_statement, view_statement, view_type_statement};
 ghost use Rattle.wac_parser_resolve.specs.InStatements.{AddsImport, AreStatements, IsAskedFor, IsDefinitionNamed, IsFuncSaid, IsImportName, IsImportNamed, IsInterfaceSaid};
-ghost use Rattle.wac_parser_resolve.specs.InStatements.{IsItemAt, IsItemNamed, IsStatement, IsText, IsTypeSaid, StaysSaid, definition_cause, identifier_of, import_cause};
+ghost use Rattle.wac_parser_resolve.specs.InStatements.{IsItemAt, IsItemNamed, IsOfName, IsStatement, IsText, IsTypeSaid, StaysSaid, definition_cause, identifier_of, import_cause};
 ghost use Rattle.wac_parser_resolve.specs.Later.{SameNumber};
 ghost use Rattle.wac_parser_resolve.specs.Saying.{declared_id};
 ghost use Rattle.wac_parser_resolve.specs.Standing.{IsSound};
@@ -294,13 +295,14 @@ fn import_statement(
     add_import(statement, state, alloc, text, name.span, item.promote())
 }
 
-// What is declared is new and no resource: the other refusals never come.
+/// Why there is no definition of this name.
 fn definition_fault(
     id: &Ident<'_>,
     graph: &CompositionGraph,
     exports: &Spans,
     fault: DefineTypeError,
 ) -> Error
+    requires { IsOfName fault }
     ensures { cause_of result ≡ definition_cause graph.now exports.now.noted.items (view_ident id.now) fault }
 {
     match fault {
@@ -321,8 +323,8 @@ fn definition_fault(
             span: id.span,
             source,
         },
-        DefineTypeError::TypeAlreadyDefined => Error::Memory,
-        DefineTypeError::CannotDefineResource => Error::Memory,
+        DefineTypeError::TypeAlreadyDefined => unreachable!(),
+        DefineTypeError::CannotDefineResource => unreachable!(),
         DefineTypeError::Memory => Error::Memory,
     }
 }
@@ -336,11 +338,13 @@ fn declared(
 ) -> Outcome<Type>
     requires { IsSound state.old.board.types.graph state.old.names }
     ensures ty { IfOk result (λ ty. Stands state.new.board.types.graph.types (ItemKind.Ty ty)) }
+    ensures definable { IfOk result (IsDefinable state.new.board.types.graph) }
     ensures sound { IsSound state.new.board.types.graph state.new.names }
     ensures number { SameNumber state.old.board.types.graph state.new.board.types.graph }
     ensures said { StaysSaid state.old state.new }
     ensures outcome { IsTypeSaid statement.now own.now state.old state.new result }
 {
+    state.board.types.graph.see_sound();
     let context = Context {
         own,
         root: &state.names,

@@ -7,7 +7,7 @@ use Rattle.wac_parser_lexer.specs.declared.token.Token.{Token}
 use Rattle.wac_parser_lexer.specs.declared.span.SourceSpan.{SourceSpan}
 use Rattle.wac_parser_lexer.specs.Items.{Input, first_item, shown_span}
 use Rattle.wac_parser_grammar.specs.Faults.{Fault}
-use Rattle.wac_parser_grammar.specs.Ahead.{Ahead, is_token, is_any, token_of, sees, sees_any, remember, count_of, none_found, refused_at, none_of, fresh, tried, tried_all, by_attempts, said}
+use Rattle.wac_parser_grammar.specs.Ahead.{Ahead, is_token, is_any, token_of, sees, sees_any, remember, count_of, none_found, refused_at, none_of, fresh, tried, tried_all, tried_until, Tries, by_attempts, said}
 
 remember-set : (n : ℕ) (ks : List Token) (k : Token) → length ks < n → slice_set (remember n ks) (length ks) (Some k) ≡ remember n (ks ++ k ∷ [])
 remember-set zero ks k h = absurd (omega arith)
@@ -78,6 +78,19 @@ some_tried k ks a = count_grows ks (tried k a) (omega arith)
 pub next_kept : (ks : List Token) (a : Ahead) → (tried_all ks a).next ≡ a.next
 next_kept [] a = refl
 next_kept (k ∷ ks) a = next_kept ks (tried k a)
+
+-- ---- where none comes next
+
+none_by : (b c : Bool) (x y z : Ahead) → (c ≡ false → y ≡ z) → cond b true c ≡ false → cond b x y ≡ z
+none_by true c x y z h e = cc
+none_by false c x y z h e = h e
+
+none_next : (ks : List Token) (t : Option Token) (a : Ahead) → is_any ks t ≡ false → tried_until ks t a ≡ tried_all ks a
+none_next [] t a e = refl
+none_next (k ∷ ks) t a e = none_by (is_token k t) (is_any ks t) a (tried_until ks t (tried k a)) (tried_all ks (tried k a)) (none_next ks t (tried k a)) e
+
+pub missed_all : (ks : List Token) (old new : Ahead) (found : Bool) → Tries ks old found new → found ≡ false → new ≡ tried_all ks old
+missed_all ks old new found tries none = tries.after ∙ none_next ks (token_of old.next) old (sym tries.value ∙ none)
 
 -- ---- what stands behind a first attempt
 

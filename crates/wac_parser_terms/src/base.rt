@@ -1,7 +1,8 @@
 //! One token at a time.
 
+ghost use Rattle.wac_parser_grammar.specs.declared.error.Error.TheVariants.{Memory};
 ghost use Rattle.wac_parser_grammar.specs.Places.{IsBehind};
-ghost use Rattle.std.specs.Prelude.{◌≡◌, ◌∷◌, ◌<◌, ◌≤◌, false, true, length, IfErr, IfOk, OnErr, OnOk, Some};
+ghost use Rattle.std.specs.Prelude.{◌≡◌, ◌≢◌, ◌∷◌, ◌<◌, ◌≤◌, false, true, length, IfErr, IfOk, OnErr, OnOk, Some};
 ghost use Rattle.wac_parser_grammar.specs.Faults.{fault_of};
 ghost use Rattle.wac_parser_lexer.specs.Pieces.{IsSpanIn};
 ghost use Rattle.wac_parser_grammar.specs.Ahead as ahead;
@@ -21,6 +22,7 @@ use wac_parser_lexer::{Lexer, SourceSpan, Token};
 fn missed(lexer: &mut Lexer<'_>, expected: Token) -> Error
     ensures fault { fault_of result ≡ ahead.missed expected lexer.old }
     ensures goes_on { IsBehind lexer.new lexer.old }
+    ensures told { result ≢ Memory }
 {
     match lexer.next() {
         None => Error::Expected {
@@ -44,6 +46,7 @@ pub fn parse_token(lexer: &mut Lexer<'_>, expected: Token) -> ParseResult<Source
     ensures within { IfOk result (λ span. IsSpanIn lexer.new.source span) }
     ensures takes { OnOk result (rules.left lexer.new < rules.left lexer.old) }
     ensures goes_on { IsBehind lexer.new lexer.old }
+    ensures told { IfErr result (λ e. e ≢ Memory) }
 {
     match lexer.take(expected) {
         Some(span) => Ok(span),
@@ -59,6 +62,7 @@ pub fn ended<T: Drop>(value: T, lexer: &mut Lexer<'_>, end: Token) -> ParseResul
     ensures same { IfOk result (λ x. x ≡ value) }
     ensures takes { OnOk result (rules.left lexer.new < rules.left lexer.old) }
     ensures goes_on { IsBehind lexer.new lexer.old }
+    ensures told { IfErr result (λ e. e ≢ Memory) }
 {
     parse_token(lexer, end)?;
     Ok(value)
@@ -150,7 +154,8 @@ fn sees_token(lexer: &Lexer<'_>) -> bool
 /// That an optional token is not there; a faulty item is refused.
 #[tactic(auto, unfolding(wac_parser_grammar::specs::Rules::fault_ahead))]
 fn absent(lexer: &Lexer<'_>) -> ParseResult<bool>
-    ensures { Reads (λ x. x) spec.absent lexer.now result lexer.now }
+    ensures value { Reads (λ x. x) spec.absent lexer.now result lexer.now }
+    ensures told { IfErr result (λ e. e ≢ Memory) }
 {
     match lexer.peek() {
         Some((Err(error), span)) => Err(Error::Lexer { error, span }),
@@ -164,6 +169,7 @@ pub fn optional(lexer: &mut Lexer<'_>, token: Token) -> ParseResult<bool>
     ensures value { Reads (λ x. x) (rules.optional token) lexer.old result lexer.new }
     ensures keeps { OnOk result (rules.left lexer.new ≤ rules.left lexer.old) }
     ensures goes_on { IsBehind lexer.new lexer.old }
+    ensures told { IfErr result (λ e. e ≢ Memory) }
 {
     match lexer.take(token) {
         Some(_) => Ok(true),
@@ -177,6 +183,7 @@ pub fn behind(lexer: &mut Lexer<'_>, until: Token, with_commas: bool) -> ParseRe
     ensures value { Reads (λ x. x) (rules.behind until with_commas) lexer.old result lexer.new }
     ensures keeps { OnOk result (rules.left lexer.new ≤ rules.left lexer.old) }
     ensures goes_on { IsBehind lexer.new lexer.old }
+    ensures told { IfErr result (λ e. e ≢ Memory) }
 {
     if sees(lexer, until) {
         return Ok(());

@@ -1,8 +1,9 @@
 //! Expressions.
 #![tactic(auto, using(crate::proofs::Places::places))]
 
+ghost use Rattle.wac_parser_grammar.specs.declared.error.Error.TheVariants.{Memory};
 ghost use Rattle.wac_parser_grammar.specs.Places.{IsBehind};
-ghost use Rattle.std.specs.Prelude.{◌≡◌, ◌<◌, ◌≤◌, map, IfOk, OnOk};
+ghost use Rattle.std.specs.Prelude.{◌≡◌, ◌≢◌, ◌<◌, ◌≤◌, map, IfErr, IfOk, OnOk};
 ghost use Rattle.wac_parser_tree.specs.Accessors.{postfix_expr_span};
 ghost use Rattle.wac_parser_tree.specs.Views.{view_expr, view_primary_expr, view_new_expr, view_nested_expr};
 ghost use Rattle.wac_parser_tree.specs.Views.{view_instantiation_argument, view_named_instantiation_argument};
@@ -175,6 +176,7 @@ fn spread_or_fill<'a>(lexer: &mut Lexer<'a>) -> ParseResult<InstantiationArgumen
     ensures value { Reads view_instantiation_argument grammar.spread_or_fill lexer.old result lexer.new }
     ensures takes { OnOk result (left lexer.new < left lexer.old) }
     ensures goes_on { IsBehind lexer.new lexer.old }
+    ensures told { IfErr result (λ e. e ≢ Memory) }
 {
     let span = parse_token(lexer, Token::Ellipsis)?;
     if sees_any(lexer, &[Token::Comma, Token::CloseBrace]) {
@@ -252,6 +254,7 @@ fn postfix_expr<'a>(lexer: &mut Lexer<'a>) -> ParseResult<PostfixExpr<'a>>
     ensures small { IfOk result (λ p. HasEnd (postfix_expr_span (view_postfix_expr p))) }
     ensures takes { OnOk result (left lexer.new < left lexer.old) }
     ensures goes_on { IsBehind lexer.new lexer.old }
+    ensures told { IfErr result (λ e. e ≢ Memory) }
 {
     if sees(lexer, Token::Dot) {
         return Ok(PostfixExpr::Access(access_expr(lexer)?));
@@ -265,6 +268,7 @@ pub fn access_expr<'a>(lexer: &mut Lexer<'a>) -> ParseResult<AccessExpr<'a>>
     ensures small { IfOk result (λ p. HasEnd p.span) }
     ensures takes { OnOk result (left lexer.new < left lexer.old) }
     ensures goes_on { IsBehind lexer.new lexer.old }
+    ensures told { IfErr result (λ e. e ≢ Memory) }
 {
     let start = parse_token(lexer, Token::Dot)?;
     let id = ident(lexer)?;
@@ -280,6 +284,7 @@ pub fn named_access_expr<'a>(lexer: &mut Lexer<'a>) -> ParseResult<NamedAccessEx
     ensures small { IfOk result (λ p. HasEnd p.span) }
     ensures takes { OnOk result (left lexer.new < left lexer.old) }
     ensures goes_on { IsBehind lexer.new lexer.old }
+    ensures told { IfErr result (λ e. e ≢ Memory) }
 {
     let start = parse_token(lexer, Token::OpenBracket)?;
     let string = string(lexer)?;

@@ -39,7 +39,7 @@ pub fn named_type<'a>(alloc: Global, lexer: &mut Lexer<'a>) -> ParseResult<Named
 
 /// A type where one begins.
 #[tactic(auto, using(crate::proofs::Places::places), unfolding(wac_parser_grammar::specs::ValueTypes::result_list))]
-fn result_list<'a>(alloc: Global, lexer: &mut Lexer<'a>) -> ParseResult<ResultList<'a>>
+pub fn result_list<'a>(alloc: Global, lexer: &mut Lexer<'a>) -> ParseResult<ResultList<'a>>
     ensures value { Reads view_result_list grammar.result_list lexer.old result lexer.new }
     ensures keeps { OnOk result (left lexer.new ≤ left lexer.old) }
     ensures goes_on { IsBehind lexer.new lexer.old }

@@ -19,7 +19,7 @@ pub use first::{
     INTERFACE_ITEM_FIRST, ITEM_TYPE_DECL_FIRST, METHOD_FIRST, NAME_FIRST, PATH_FIRST, Peek,
     STATEMENT_FIRST, TYPE_DECL_FIRST, TYPE_STATEMENT_FIRST, WORLD_ITEM_FIRST,
 };
-pub use function::{FUNC_FIRST, func_params, func_type, func_type_ref, named_type};
+pub use function::{FUNC_FIRST, func_params, func_type, func_type_ref, named_type, result_list};
 pub use lookahead::Lookahead;
 pub use package::{package_name, package_path};
 pub use text::{doc_comments, ident, string};

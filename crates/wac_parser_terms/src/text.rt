@@ -1,8 +1,9 @@
 //! Names, strings and doc comments.
 #![tactic(auto, using(crate::proofs::Places::places))]
 
+ghost use Rattle.wac_parser_grammar.specs.declared.error.Error.TheVariants.{Memory};
 ghost use Rattle.wac_parser_grammar.specs.Places.{IsBehind};
-ghost use Rattle.std.specs.Prelude.{◌≡◌, ◌<◌, map, IfOk, OnOk};
+ghost use Rattle.std.specs.Prelude.{◌≡◌, ◌≢◌, ◌<◌, map, IfErr, IfOk, OnOk};
 ghost use Rattle.wac_parser_lexer.specs.Docs.{doc_of};
 ghost use Rattle.wac_parser_lexer.specs.Items.{docs_ahead};
 ghost use Rattle.wac_parser_tree.specs.Views.{view_ident, view_string, view_doc_comment};
@@ -76,6 +77,7 @@ pub fn ident<'a>(lexer: &mut Lexer<'a>) -> ParseResult<Ident<'a>>
     ensures small { IfOk result (λ id. HasEnd id.span) }
     ensures takes { OnOk result (left lexer.new < left lexer.old) }
     ensures goes_on { IsBehind lexer.new lexer.old }
+    ensures told { IfErr result (λ e. e ≢ Memory) }
 {
     let span = parse_token(lexer, Token::Ident)?;
     Ok(Ident {
@@ -90,6 +92,7 @@ pub fn string<'a>(lexer: &mut Lexer<'a>) -> ParseResult<String<'a>>
     ensures value { Reads view_string grammar.string lexer.old result lexer.new }
     ensures takes { OnOk result (left lexer.new < left lexer.old) }
     ensures goes_on { IsBehind lexer.new lexer.old }
+    ensures told { IfErr result (λ e. e ≢ Memory) }
 {
     let span = parse_token(lexer, Token::String)?;
     Ok(String {

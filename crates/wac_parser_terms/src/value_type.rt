@@ -1,8 +1,9 @@
 //! Types of values.
 #![tactic(auto, using(crate::proofs::Places::places))]
 
+ghost use Rattle.wac_parser_grammar.specs.declared.error.Error.TheVariants.{Memory};
 ghost use Rattle.wac_parser_grammar.specs.Places.{IsBehind};
-ghost use Rattle.std.specs.Prelude.{◌≡◌, ◌<◌, ◌≤◌, OnOk, OnSome};
+ghost use Rattle.std.specs.Prelude.{◌≡◌, ◌≢◌, ◌<◌, ◌≤◌, IfErr, OnOk, OnSome};
 ghost use Rattle.std.specs.Option.{option_map};
 ghost use Rattle.wac_parser_tree.specs.Views.{view_ty, view_boxed_ty};
 ghost use Rattle.wac_parser_terms.specs.Views.{view_all, view_maybe, view_payload};
@@ -257,6 +258,7 @@ fn borrow_ty<'a>(lexer: &mut Lexer<'a>) -> ParseResult<Type<'a>>
     ensures value { Reads view_ty grammar.borrow_ty lexer.old result lexer.new }
     ensures takes { OnOk result (left lexer.new < left lexer.old) }
     ensures goes_on { IsBehind lexer.new lexer.old }
+    ensures told { IfErr result (λ e. e ≢ Memory) }
 {
     let start = parse_token(lexer, Token::BorrowKeyword)?;
     parse_token(lexer, Token::OpenAngle)?;

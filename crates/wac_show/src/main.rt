@@ -30,7 +30,8 @@ fn shown(rt: &HostRuntime, alloc: Global, path: &str) -> Result<Shown, Stop> {
 /// Tells why nothing more is shown.
 fn tell(rt: &HostRuntime, stop: Stop) -> io::Result<ExitCode> {
     match stop {
-        Stop::Memory | Stop::Unwritten => eprintln!(rt; "error: out of memory")?,
+        Stop::Memory => eprintln!(rt; "error: out of memory")?,
+        Stop::Unwritten => (),
         Stop::Refused { text, span: _ } => eprintln!(rt; "error: {text}")?,
     }
     Ok(ExitCode::FAILURE)

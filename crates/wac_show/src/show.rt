@@ -53,7 +53,8 @@ impl Showing {
     /// Tells why a source was refused, with its line.
     fn tell_stop(&mut self, source: &str, stop: Stop) -> Result<(), AllocError> {
         match stop {
-            Stop::Memory | Stop::Unwritten => self.text.push_str("error: out of memory\n"),
+            Stop::Memory => self.text.push_str("error: out of memory\n"),
+            Stop::Unwritten => Ok(()),
             Stop::Refused { text: told, span } => {
                 writeln!(self.text, "error in source {}: {told}", self.count)?;
                 self.tell_place(source, span)

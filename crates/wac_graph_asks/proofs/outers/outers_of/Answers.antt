@@ -10,6 +10,16 @@ use Rattle.wac_graph_asks.proofs.Answering.{answers, answers_free, answers_refus
 use Rattle.wac_graph_asks.proofs.TakingMore.{again_err}
 use Rattle.wac_graph_asks.proofs.outers.outers_of.Goals as goal
 
+pub outers_of_classes-requires-clause-sound : goal.outers_of_classes-requires-clause-sound
+outers_of_classes-requires-clause-sound c = record { stand = c.requires; differ = c.see_named.ensures }
+
+pub outers_of_classes-requires-clause-classed : goal.outers_of_classes-requires-clause-classed
+outers_of_classes-requires-clause-classed c = record {
+  stand = c.requires;
+  labels = subst (λ (xs : List Ask). AreLabels (asks_in c.args.asked.now.types xs) c.in_ok-classes.classes.labels.items) c.deref.ensures.value c.in_ok-classes.ensures.labels;
+  spellings = subst (λ (xs : List Ask). AreSpellings (asks_in c.args.asked.now.types xs) c.in_ok-classes.classes.labels.items c.in_ok-classes.classes.spellings.items) c.deref.ensures.value c.in_ok-classes.ensures.spellings;
+}
+
 pub returns-in_err-classes-clause-keeps : goal.returns-in_err-classes-clause-keeps
 returns-in_err-classes-clause-keeps c = record { grows = Grows-refl c.args.asked.now.types c.see_acyclic.ensures; asks = refl; packages = refl; definitions = refl }
 

@@ -122,8 +122,8 @@ returns-in_err-bytes-clause-refused c =
     (λ prepared none.
     let copied = subst (λ (xs : List Definition). AreCopied g.types old.types xs) (sym c.deref.ensures.value) prepared.copies in
     let formed = all_grown g.types mid new.types c.in_ok-check_circles.ensures.grows old.definitions.items made.items (subst (λ (xs : List Definition). AreFormed g.types mid xs made.items) c.deref.ensures.value (c.in_ok-definitions.ensures.forms g.types copied)) in
-    size_refused options g fault (of_size options g fault c.in_err-bytes.ensures.large
-    (λ large at. past_size g old o prepared c.see_sound.ensures (subst IsAcyclic c.types.ensures c.see_acyclic.ensures) options new made grows refl formed c.in_ok-check_processor.ensures.fits (subst (λ f. UnfitAsked {A = Vec ℕ Global} g new o made.items options (Err f)) at unfit) large)))
+    size_refused options g fault (of_size options g fault
+    (λ at. past_size g old o prepared c.see_sound.ensures (subst IsAcyclic c.types.ensures c.see_acyclic.ensures) options new made grows refl formed c.in_ok-check_processor.ensures.fits (subst (λ f. UnfitAsked {A = Vec ℕ Global} g new o made.items options (Err f)) at unfit))))
 
 pub returns-in_err-check_names-clause-refused : goal.returns-in_err-check_names-clause-refused
 returns-in_err-check_names-clause-refused c =

@@ -5,6 +5,9 @@ use Rattle.wac_graph_encode.proofs.Refusing.{is_free}
 use Rattle.wac_graph_scopes.proofs.RefusedLaws.{if_err_map}
 use Rattle.wac_graph_encode.proofs.encode.encoded.Goals as goal
 
+pub outers_checked-requires : goal.outers_checked-requires
+outers_checked-requires c = c.in_ok-asked.ensures.held.items
+
 pub encoded_asked-requires-clause-copies : goal.encoded_asked-requires-clause-copies
 encoded_asked-requires-clause-copies c = copies_stand c.args.graph.now c.in_ok-asked.asked c.outers_checked.new.asked c.in_ok-asked.ensures.held c.in_ok-outers.ensures.keeps
 

@@ -9,6 +9,7 @@ use Rattle.wac_parser_refusals.proofs.Outcomes.{after_refused, memory_outcome, r
 use Rattle.wac_parser_declare.specs.Declarations.{param, result_of, function}
 use Rattle.wac_parser_declare.specs.Holding.{AreNamedValues, IsFunc, IsValueIf, scope_of, self_params, stated_if, stated_value}
 use Rattle.wac_parser_declare.proofs.Members.{function_held, refused_over, result_kept, result_refused, self_given}
+use Rattle.wac_parser_declare.proofs.Fresh.{func_newer}
 use Rattle.wac_parser_declare.proofs.functions.function.Goals as goal
 
 pub returns-in_err-found-clause-outcome : goal.returns-in_err-found-clause-outcome
@@ -75,3 +76,8 @@ returns-clause-outcome g c =
     subst (λ (xs : List (Name × Stated)). IsHeld (λ (ys : List (Name × Stated)) (u : ⊤). AreNamedValues mid ys c.add_params.new.found) (each (param s.kind ns) xs ps) tt) start c.in_ok-add_params.ensures.outcome in
     let answered = result_kept old mid c.in_ok-add_params.ensures.grows c.args.names.now c.requires.names s.given c.requires.given rs (λ (a : Answer (Option Stated)). IsHeld (IsValueIf far) a c.in_ok-result.result) c.in_ok-result.ensures.outcome in
     function_held mid far new c.in_ok-result.ensures.grows c.in_ok-id.ensures.grows c.in_ok-id.id c.add_params.new.found c.in_ok-result.result s.is_async q (result_of ns (stated_if old s.given) rs) tt held answered c.in_ok-id.ensures.node
+
+pub returns-clause-fresh : goal.returns-clause-fresh
+returns-clause-fresh g c =
+    func_newer (g.T.GrowingTypes.collection c.args.types.now) (g.T.GrowingTypes.collection c.add_params.new.types) c.in_ok-id.id c.in_ok-add_params.ensures.grows
+    (func_newer (g.T.GrowingTypes.collection c.add_params.new.types) (g.T.GrowingTypes.collection c.result_type.new.types) c.in_ok-id.id c.in_ok-result.ensures.grows c.in_ok-id.ensures.fresh)

@@ -10,6 +10,7 @@ use Rattle.wac_parser_declare.specs.InBodies.{IsBody}
 use Rattle.wac_parser_declare.specs.Interfaces.{exporting, interface_decl, interface_item}
 use Rattle.wac_parser_declare.specs.Making.{AnInstance, identifier_of, interface_with}
 use Rattle.wac_parser_declare.specs.Scope.{identifier}
+use Rattle.wac_parser_declare.proofs.Fresh.{new_before}
 use Rattle.wac_parser_declare.proofs.interfaces.interface_decl.Goals as goal
 
 pub returns-in_err-body-clause-outcome : goal.returns-in_err-body-clause-outcome
@@ -32,3 +33,6 @@ returns-clause-outcome g c x s =
     (c.in_ok-body.ensures.outcome x s)
     (λ b held. subst (λ (o : t.PackageName). AnInstance new (interface_of (Some (identifier o n)) b.uses b.items) c.in_ok-id.id) (sym s.own)
     (subst (λ (y : stated.Body). AnInstance new (interface_with (Some (identifier_of own n)) y) c.in_ok-id.id) held c.in_ok-id.ensures.made))
+
+pub returns-clause-fresh : goal.returns-clause-fresh
+returns-clause-fresh g c = new_before (g.T.GrowingTypes.collection c.args.types.now) (g.T.GrowingTypes.collection c.interface_items.new.types) _ c.in_ok-body.ensures.grows c.in_ok-id.ensures.fresh

@@ -12,6 +12,7 @@ use Rattle.wac_parser_declare.specs.Interfaces.{interface_decl}
 use Rattle.wac_parser_declare.specs.Making.{AnInstance}
 use Rattle.wac_parser_declare.specs.Worlds.{type_statement, world_decl}
 use Rattle.wac_parser_declare.proofs.InWorlds.{interface_typed, world_typed}
+use Rattle.wac_parser_declare.proofs.Fresh.{interface_new, world_new}
 use Rattle.wac_parser_declare.proofs.statements.type_statement.Goals as goal
 
 pub returns-in_err-id-in-Interface-clause-outcome : goal.returns-in_err-id-in-Interface-clause-outcome
@@ -47,3 +48,9 @@ returns-in_ok-id-in-World-clause-outcome g c x s =
     subst (λ (t : TypeStatement). IsHeld (IsType new) (type_statement x (view_type_statement t)) (TypeKind.World i)) (sym c.in-World.is)
     (after_held typed (AWorld new) (IsType new) (world_decl x (view_world_decl c.in-World.decl)) i (TypeKind.World i) (c.in_ok-id-in-World.ensures.outcome x s)
     (λ y h. world_typed new c.in_ok-id-in-World.ensures.grows.acyclic y i h))
+
+pub returns-in_ok-id-in-Interface-clause-fresh : goal.returns-in_ok-id-in-Interface-clause-fresh
+returns-in_ok-id-in-Interface-clause-fresh g c = interface_new (g.T.GrowingTypes.collection c.args.types.now) c.in_ok-id-in-Interface.id c.in_ok-id-in-Interface.ensures.fresh
+
+pub returns-in_ok-id-in-World-clause-fresh : goal.returns-in_ok-id-in-World-clause-fresh
+returns-in_ok-id-in-World-clause-fresh g c = world_new (g.T.GrowingTypes.collection c.args.types.now) c.in_ok-id-in-World.id c.in_ok-id-in-World.ensures.fresh

@@ -8,6 +8,7 @@ use Rattle.wac_parser_refusals.proofs.Outcomes.{memory_outcome, refused_outcome,
 use Rattle.wac_parser_declare.specs.Declarations.{flag_of, flags_decl as stated}
 use Rattle.wac_parser_declare.specs.Holding.{IsType}
 use Rattle.wac_parser_declare.proofs.Named.{leaf_held}
+use Rattle.wac_parser_declare.proofs.Fresh.{value_new}
 use Rattle.wac_parser_declare.proofs.type_decls.flags_decl.Goals as goal
 
 pub returns-in_err-flags-clause-outcome : goal.returns-in_err-flags-clause-outcome
@@ -25,3 +26,6 @@ returns-clause-outcome g c =
     let d = c.args.decl.now in
     leaf_held (g.T.GrowingTypes.collection c.define.new.types) c.in_ok-ty.ensures.grows.acyclic s.flags c.in_ok-ty.ty c.in_ok-flags.flags
     (each (flag_of d.id.string.now) [] (map view_flag d.flags.items)) c.in_ok-flags.ensures c.in_ok-ty.ensures.node
+
+pub returns-clause-fresh : goal.returns-clause-fresh
+returns-clause-fresh g c = value_new (g.T.GrowingTypes.collection c.args.types.now) c.in_ok-ty.ty c.in_ok-ty.ensures.fresh

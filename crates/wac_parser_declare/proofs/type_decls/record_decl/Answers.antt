@@ -7,6 +7,7 @@ use Rattle.wac_parser_refusals.proofs.Outcomes.{memory_outcome, refused_outcome,
 use Rattle.wac_parser_declare.specs.Declarations.{field_of, record_of, record_decl as stated}
 use Rattle.wac_parser_declare.specs.Holding.{IsType, scope_of}
 use Rattle.wac_parser_declare.proofs.Named.{record_held}
+use Rattle.wac_parser_declare.proofs.Fresh.{value_newer}
 use Rattle.wac_parser_declare.proofs.type_decls.record_decl.Goals as goal
 
 pub returns-in_err-fields-clause-outcome : goal.returns-in_err-fields-clause-outcome
@@ -26,3 +27,6 @@ returns-clause-outcome g c =
     let d = c.args.decl.now in
     record_held (g.T.GrowingTypes.collection c.fields.new.types) (g.T.GrowingTypes.collection c.define.new.types) c.in_ok-ty.ensures.grows c.in_ok-ty.ty c.in_ok-fields.fields
     (each (field_of d.id.string.now ns) [] (map view_field d.fields.items)) c.in_ok-fields.ensures.outcome c.in_ok-ty.ensures.node
+
+pub returns-clause-fresh : goal.returns-clause-fresh
+returns-clause-fresh g c = value_newer (g.T.GrowingTypes.collection c.args.types.now) (g.T.GrowingTypes.collection c.fields.new.types) c.in_ok-ty.ty c.in_ok-fields.ensures.grows c.in_ok-ty.ensures.fresh

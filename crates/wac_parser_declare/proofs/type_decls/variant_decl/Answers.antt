@@ -8,6 +8,7 @@ use Rattle.wac_parser_declare.specs.Declarations.{case_of, variant_of, variant_d
 use Rattle.wac_parser_declare.specs.Holding.{IsType, scope_of}
 use Rattle.wac_parser_declare.proofs.Named.{variant_held}
 use Rattle.wac_parser_declare.proofs.Standing.{cases_children}
+use Rattle.wac_parser_declare.proofs.Fresh.{value_newer}
 use Rattle.wac_parser_declare.proofs.type_decls.variant_decl.Goals as goal
 
 pub define-requires : goal.define-requires
@@ -30,3 +31,6 @@ returns-clause-outcome g c =
     let d = c.args.decl.now in
     variant_held (g.T.GrowingTypes.collection c.cases.new.types) (g.T.GrowingTypes.collection c.define.new.types) c.in_ok-ty.ensures.grows c.in_ok-ty.ty c.in_ok-cases.cases
     (each (case_of d.id.string.now ns) [] (map view_variant_case d.cases.items)) c.in_ok-cases.ensures.outcome c.in_ok-ty.ensures.node
+
+pub returns-clause-fresh : goal.returns-clause-fresh
+returns-clause-fresh g c = value_newer (g.T.GrowingTypes.collection c.args.types.now) (g.T.GrowingTypes.collection c.cases.new.types) c.in_ok-ty.ty c.in_ok-cases.ensures.grows c.in_ok-ty.ensures.fresh

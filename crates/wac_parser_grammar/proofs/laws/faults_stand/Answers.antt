@@ -5,9 +5,11 @@ use Rattle.wac_parser_grammar.specs.Laws.{FaultsStandWithin}
 use Rattle.wac_parser_grammar.specs.Standing.{IsTooDeep}
 use Rattle.wac_parser_grammar.specs.Expressions.{expr}
 use Rattle.wac_parser_grammar.proofs.ExprLaws.{expr_exact, expr_takes}
-use Rattle.wac_parser_grammar.proofs.Faithful.{FaithfulBy, Any}
+use Rattle.wac_parser_grammar.specs.ValueTypes.{value_type}
+use Rattle.wac_parser_grammar.proofs.TypeLaws.{value_type_exact, value_type_takes}
+use Rattle.wac_parser_grammar.proofs.Faithful.{FaithfulBy, Any, token_faithful}
 use Rattle.wac_parser_grammar.proofs.NameFaults.{docs_faithful, ident_faithful, string_faithful, package_name_faithful, package_path_faithful}
-use Rattle.wac_parser_grammar.proofs.TypeFaults.{value_type_faithful, named_type_faithful, func_type_faithful, func_type_ref_faithful}
+use Rattle.wac_parser_grammar.proofs.TypeFaults.{payload_faithful, value_type_faithful, named_type_faithful, result_list_faithful, func_type_faithful, func_type_ref_faithful}
 use Rattle.wac_parser_grammar.proofs.ExprFaults.{argument_name_faithful, access_expr_faithful, named_access_expr_faithful, expression_faithful, instantiation_argument_faithful, named_argument_faithful, expr_faithful, nested_within, new_within, primary_within}
 use Rattle.wac_parser_grammar.proofs.DeclFaults.{variant_case_faithful, variant_decl_faithful, field_faithful, record_decl_faithful, flag_faithful, flags_decl_faithful, enum_case_faithful, enum_decl_faithful, type_alias_kind_faithful, type_alias_faithful, constructor_faithful, method_faithful, resource_method_faithful, resource_decl_faithful, type_decl_faithful, item_type_decl_faithful}
 use Rattle.wac_parser_grammar.proofs.WorldFaults.{use_path_faithful, use_item_faithful, use_types_faithful, interface_export_faithful, interface_item_faithful, interface_decl_faithful, inline_interface_faithful, extern_type_faithful, named_world_item_faithful, world_item_path_faithful, world_import_faithful, world_export_faithful, world_ref_faithful, world_include_item_faithful, world_include_faithful, world_item_faithful, world_decl_faithful}
@@ -15,10 +17,12 @@ use Rattle.wac_parser_grammar.proofs.DocumentFaults.{extern_name_faithful, impor
 use Rattle.wac_parser_grammar.proofs.laws.faults_stand.Goals as goal
 
 stand : {X : Type 0} {n : ℕ} (p : Rule X) → FaithfulBy (IsTooDeep n) Any p → FaultsStandWithin n p
-stand p e = λ s f h. e.stands s f tt h
+stand p e = record { goes_on = λ s x r h. e.goes s x r tt h; stands = λ s f h. e.stands s f tt h }
 
 pub returns : goal.returns
 returns c = record {
+  token = λ x. stand _ (token_faithful x);
+  payload = λ start. stand _ (payload_faithful value_type value_type_exact value_type_takes value_type_faithful start);
   docs = stand _ docs_faithful;
   ident = stand _ ident_faithful;
   string = stand _ string_faithful;
@@ -26,6 +30,7 @@ returns c = record {
   package_path = stand _ package_path_faithful;
   value_type = stand _ value_type_faithful;
   named_type = stand _ named_type_faithful;
+  result_list = stand _ result_list_faithful;
   func_type = stand _ func_type_faithful;
   func_type_ref = stand _ func_type_ref_faithful;
   argument_name = stand _ argument_name_faithful;

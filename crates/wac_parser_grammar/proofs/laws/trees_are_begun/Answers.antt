@@ -5,8 +5,8 @@ use Rattle.wac_parser_grammar.specs.Rules.{Rule}
 use Rattle.wac_parser_grammar.specs.Laws.{IsBegun}
 use Rattle.wac_parser_grammar.specs.Expressions.{expr}
 use Rattle.wac_parser_grammar.proofs.Exact.{Takes, Begins}
-use Rattle.wac_parser_grammar.proofs.NameLaws.{ident_begins, string_begins, ident_takes, string_takes}
-use Rattle.wac_parser_grammar.proofs.TypeLaws.{value_type_begins, named_type_begins, value_type_takes, named_type_takes}
+use Rattle.wac_parser_grammar.proofs.NameLaws.{ident_begins, string_begins, package_path_begins, ident_takes, string_takes, package_path_takes}
+use Rattle.wac_parser_grammar.proofs.TypeLaws.{value_type_begins, named_type_begins, func_type_begins, value_type_takes, named_type_takes, func_type_takes}
 use Rattle.wac_parser_grammar.proofs.ExprLaws.{argument_name_begins, access_expr_begins, named_access_expr_begins, instantiation_argument_begins, named_argument_begins, nested_expr_begins, new_expr_begins, argument_name_takes, access_expr_takes, named_access_expr_takes, instantiation_argument_takes, named_argument_takes, nested_expr_takes, new_expr_takes, expr_exact, expr_takes}
 use Rattle.wac_parser_grammar.proofs.DeclLaws.{variant_case_begins, variant_decl_begins, field_begins, record_decl_begins, flag_begins, flags_decl_begins, enum_case_begins, enum_decl_begins, type_alias_begins, constructor_begins, method_begins, resource_method_begins, resource_decl_begins, type_decl_begins, item_type_decl_begins, variant_case_takes, variant_decl_takes, field_takes, record_decl_takes, flag_takes, flags_decl_takes, enum_case_takes, enum_decl_takes, type_alias_takes, constructor_takes, method_takes, resource_method_takes, resource_decl_takes, type_decl_takes, item_type_decl_takes}
 use Rattle.wac_parser_grammar.proofs.WorldLaws.{use_path_begins, use_item_begins, use_types_begins, interface_export_begins, interface_item_begins, interface_decl_begins, inline_interface_begins, named_world_item_begins, world_import_begins, world_export_begins, world_include_item_begins, world_include_begins, world_item_begins, world_decl_begins, use_path_takes, use_item_takes, use_types_takes, interface_export_takes, interface_item_takes, interface_decl_takes, inline_interface_takes, named_world_item_takes, world_import_takes, world_export_takes, world_include_item_takes, world_include_takes, world_item_takes, world_decl_takes}
@@ -20,8 +20,10 @@ pub returns : goal.returns
 returns c = record {
   ident = both _ _ ident_begins ident_takes;
   string = both _ _ string_begins string_takes;
+  package_path = both _ _ package_path_begins package_path_takes;
   value_type = both _ _ value_type_begins value_type_takes;
   named_type = both _ _ named_type_begins named_type_takes;
+  func_type = both _ _ func_type_begins func_type_takes;
   argument_name = both _ _ argument_name_begins argument_name_takes;
   access_expr = both _ _ access_expr_begins access_expr_takes;
   named_access_expr = both _ _ named_access_expr_begins named_access_expr_takes;

@@ -14,6 +14,7 @@ use Rattle.wac_graph_core.specs.Graph.{Graph}
 use Rattle.wac_parser_resolve.specs.InStatements.{definition_cause}
 use Rattle.wac_parser_resolve.specs.Said.{IsSaid}
 use Rattle.wac_parser_resolve.specs.Saying.{declaration, declared_id, statement, with_definition}
+use Rattle.wac_parser_resolve.proofs.Definable.{named_fault}
 use Rattle.wac_parser_resolve.proofs.Declaring.{definition_denotes, definition_outcome, definition_refused, definition_said}
 use Rattle.wac_parser_resolve.proofs.statements.declaration.Goals as goal
 
@@ -51,3 +52,7 @@ returns-in-Err-clause-outcome c s said =
     (definition_refused own b s (c.declared.ensures.said own s said) i item c.in_ok-ty.ty c.define.ensures.before c.in-Err.fault c.named.result c.in-Err.ensures.refused
     (subst (λ (o : Option Cause). Names c.named.result o)
     (c.definition_fault-fault.ensures ∙ ap (λ (g : Graph). definition_cause g b.exports.noted.items i c.in-Err.fault) c.in-Err.ensures.kept) c.named.ensures)))
+
+pub definition_fault-fault-requires : goal.definition_fault-fault-requires
+definition_fault-fault-requires c =
+    named_fault c.declared.new.state.board.types.graph c.declared_id-id.result.string.now c.in_ok-ty.ty c.in-Err.fault c.in_ok-ty.ensures.definable c.in-Err.ensures.refused

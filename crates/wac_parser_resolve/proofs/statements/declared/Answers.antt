@@ -2,6 +2,8 @@ use Rattle.std.proofs.Common.{sym}
 use Rattle.wac_parser_refusals.proofs.Outcomes.{refused_outcome}
 use Rattle.wac_parser_declare.specs.Holding.{IsType}
 use Rattle.wac_parser_resolve.proofs.Boards.{world_known}
+use Rattle.wac_parser_resolve.proofs.Definable.{newly_definable}
+use Rattle.wac_parser_resolve.proofs.Knowing.{nodes_back}
 use Rattle.wac_parser_resolve.proofs.Stating.{said_grows}
 use Rattle.wac_parser_tree.specs.Views.{view_type_statement}
 use Rattle.wac_parser_declare.specs.Worlds.{type_statement}
@@ -21,3 +23,9 @@ returns-in_err-ty-clause-outcome c s said =
 
 pub returns-clause-outcome : goal.returns-clause-outcome
 returns-clause-outcome c s said = c.in_ok-ty.ensures.outcome (context s) (record { own = said.own; root = sym said.scope; packages = λ k. sym (world_known s.packages k _ (said.board.known k)) })
+
+pub returns-clause-definable : goal.returns-clause-definable
+returns-clause-definable c =
+    let g = c.args.state.now.board.types.graph in
+    let h = c.type_statement.new.types.graph in
+    newly_definable g h c.in_ok-ty.ty c.see_sound.ensures (nodes_back g h c.type_statement.ensures.packages.rest) c.in_ok-ty.ensures.fresh
