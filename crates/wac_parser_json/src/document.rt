@@ -37,7 +37,7 @@ fn document<W: ByteSink>(document: &Document<'_>, out: &mut JsonWriter<'_, W>)
     });
 }
 
-/// WritesBytes the JSON text of a document, piece by piece as it is walked: no memory is taken. Where a write fails,
+/// Writes the JSON text of a document, piece by piece as it is walked: no memory is taken. Where a write fails,
 /// or takes nothing, a front of the text was written, and the sink gets no further call.
 pub fn write_json<W: ByteSink>(tree: &Document<'_>, sink: &mut W) -> Result<(), WriteError>
     ensures whole { OnOk result (Appends (W.contents sink.old) (W.contents sink.new) (json_text (view_document tree.now))) }

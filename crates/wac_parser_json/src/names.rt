@@ -28,7 +28,7 @@ pub(crate) fn span<W: ByteSink>(at: SourceSpan, out: &mut JsonWriter<'_, W>)
     });
 }
 
-/// WritesBytes a number as it stands in a string.
+/// Writes a number as it stands in a string.
 fn numeral<W: ByteSink>(number: u64, out: &mut JsonWriter<'_, W>)
     ensures { WritesBytes W.contents W.calls out.old (escape (decimal number)) out.new }
 {
@@ -36,7 +36,7 @@ fn numeral<W: ByteSink>(number: u64, out: &mut JsonWriter<'_, W>)
     out.escaped(buffer.format(number).as_bytes());
 }
 
-/// WritesBytes the mark and the text behind it, or nothing where there is no text.
+/// Writes the mark and the text behind it, or nothing where there is no text.
 fn marked<W: ByteSink>(mark: u8, text: &str, out: &mut JsonWriter<'_, W>)
     ensures { WritesBytes W.contents W.calls out.old (escape (marked mark text.now)) out.new }
 {
@@ -61,7 +61,7 @@ fn version_text<W: ByteSink>(version: &Version, out: &mut JsonWriter<'_, W>)
     out.word("\"");
 }
 
-/// WritesBytes the text of the version, or `null`.
+/// Writes the text of the version, or `null`.
 fn version<W: ByteSink>(version: &Option<Version>, out: &mut JsonWriter<'_, W>)
     ensures { Writes W.contents W.calls out.old (objects.version (option_map parts_of version.now)) out.new }
 {

@@ -9,7 +9,7 @@ ghost use Rattle.wac_parser_json.specs.Writers.{Writes};
 use crate::writer::JsonWriter;
 use wac_streams::ByteSink;
 
-/// WritesBytes an object. Its members stand by ascending name, and each value is written by its expression.
+/// Writes an object. Its members stand by ascending name, and each value is written by its expression.
 macro_rules! object {
     ($out:expr; {$first:literal: $value:expr $(, $name:literal: $other:expr)*}) => {{
         $out.word(concat!("{\"", $first, "\":"));
@@ -36,7 +36,7 @@ pub(crate) trait Part {
         ensures { Writes W.contents W.calls out.old (json (plain self.now)) out.new };
 }
 
-/// WritesBytes an array of the parts.
+/// Writes an array of the parts.
 pub(crate) fn array<T: Part, W: ByteSink>(parts: &Vec<T>, out: &mut JsonWriter<'_, W>)
     ensures { Writes W.contents W.calls out.old (array_of T.json (map T.plain parts.now.items)) out.new }
 {
@@ -50,7 +50,7 @@ pub(crate) fn array<T: Part, W: ByteSink>(parts: &Vec<T>, out: &mut JsonWriter<'
     out.word("]");
 }
 
-/// WritesBytes the part, or `null`.
+/// Writes the part, or `null`.
 pub(crate) fn optional<T: Part, W: ByteSink>(part: &Option<T>, out: &mut JsonWriter<'_, W>)
     ensures { Writes W.contents W.calls out.old (or_null T.json (option_map T.plain part.now)) out.new }
 {

@@ -18,7 +18,7 @@ use wac_parser_lexer::SourceSpan;
 use wac_parser_tree::{FuncType, FuncTypeRef, Ident, NamedType, ResultList, Type};
 use wac_streams::ByteSink;
 
-/// WritesBytes a place and a closing brace behind the opening.
+/// Writes a place and a closing brace behind the opening.
 fn spanned<W: ByteSink>(opening: &str, at: SourceSpan, out: &mut JsonWriter<'_, W>)
     ensures { WritesBytes W.contents W.calls out.old (opening.now ++ (compact_text (objects.span at) ++ codes "}")) out.new }
 {
@@ -74,7 +74,7 @@ pub(crate) fn ty<W: ByteSink>(ty: &Type<'_>, out: &mut JsonWriter<'_, W>)
     }
 }
 
-/// WritesBytes a type with its place, and a closing brace, behind the opening.
+/// Writes a type with its place, and a closing brace, behind the opening.
 #[cycle(ty)]
 fn one_type<W: ByteSink>(one: &Type<'_>, opening: &str, at: SourceSpan, out: &mut JsonWriter<'_, W>)
     ensures { WritesBytes W.contents W.calls out.old
@@ -89,7 +89,7 @@ fn one_type<W: ByteSink>(one: &Type<'_>, opening: &str, at: SourceSpan, out: &mu
     out.word("}");
 }
 
-/// WritesBytes a type, or `null`.
+/// Writes a type, or `null`.
 #[cycle(ty)]
 fn payload<W: ByteSink>(payload: &Option<Box<Type<'_>>>, out: &mut JsonWriter<'_, W>)
     ensures { Writes W.contents W.calls out.old (values.maybe_ty (t.maybe_ty (option_map view_boxed_ty payload.now))) out.new }
@@ -100,7 +100,7 @@ fn payload<W: ByteSink>(payload: &Option<Box<Type<'_>>>, out: &mut JsonWriter<'_
     }
 }
 
-/// WritesBytes a type or `null`, with its place, and a closing brace, behind the opening.
+/// Writes a type or `null`, with its place, and a closing brace, behind the opening.
 #[cycle(ty)]
 fn optional_type<W: ByteSink>(
     one: &Option<Box<Type<'_>>>,

@@ -92,7 +92,7 @@ impl<W: ByteSink> JsonWriter<'_, W> {
         self.word(buffer.format(number));
     }
 
-    /// WritesBytes a text in quotes.
+    /// Writes a text in quotes.
     pub(crate) fn string(&mut self, text: &str)
         ensures { Writes W.contents W.calls self.old (string text.now) self.new }
     {
@@ -101,7 +101,7 @@ impl<W: ByteSink> JsonWriter<'_, W> {
         self.word("\"");
     }
 
-    /// WritesBytes bytes as they stand in a string.
+    /// Writes bytes as they stand in a string.
     pub(crate) fn escaped(&mut self, bytes: &[u8])
         ensures { WritesBytes W.contents W.calls self.old (escape bytes.now) self.new }
     {
@@ -111,7 +111,7 @@ impl<W: ByteSink> JsonWriter<'_, W> {
         }
     }
 
-    /// WritesBytes a front of the bytes as it stands in a string, and answers its length.
+    /// Writes a front of the bytes as it stands in a string, and answers its length.
     fn escaped_front(&mut self, bytes: &[u8]) -> usize
         requires { 0 < length bytes.now }
         ensures some { 0 < result }

@@ -25,7 +25,7 @@ items-preserved g c = record {
   reads = λ n. rw (c.in_ok-push.ensures.items, map-append, length-append)
       (Rests-more g.T.Parse.rule.read g.T.Peek.first c.args.until c.args.with_commas (map g.T.Parse.view c.items.items.items) c.items.lexer c.parse.new.lexer c.behind.new.lexer c.args.lexer.now (g.T.Parse.view c.in_ok-parse.field-0) (length c.items.items.items)
       c.items.invariant.reads (sym c.sees.ensures ∙ c.items-test.true) c.in_ok-expect_value.ensures.some c.in_ok-parse.ensures.value c.in_ok-behind.ensures.value n);
-  room = rw (c.in_ok-push.ensures.items, length-append) (omega (arith, c.items.invariant.room, fewer_left g.T.Parse.nonempty c.parse.new.lexer c.items.lexer c.requires c.in_ok-parse.ensures.takes, c.in_ok-behind.ensures.keeps));
+  room = rw (c.in_ok-push.ensures.items, length-append) (omega (arith, c.items.invariant.room, fewer_left g.T.Parse.nonempty c.parse.new.lexer c.items.lexer c.requires.some c.in_ok-parse.ensures.takes, c.in_ok-behind.ensures.keeps));
   place = behind_trans c.behind.new.lexer c.parse.new.lexer c.args.lexer.now c.behind.ensures.goes_on (behind_trans c.parse.new.lexer c.items.lexer c.args.lexer.now c.parse.ensures.goes_on c.items.invariant.place);
 }
 
