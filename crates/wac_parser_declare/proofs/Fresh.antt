@@ -1,5 +1,5 @@
 -- What is added did not stand before.
-use Rattle.std.proofs.Common.{◌≡◌, ◌≤◌, Bool, true, false, List, length, Option, Some, None, IsSome, Result, Ok, Err, IfOk, option_map, slice_get, cond, subst, sym, ap, arith}
+use Rattle.std.proofs.Common.{◌≡◌, ◌==◌, ◌≤◌, Bool, true, false, true≢false, List, length, Option, Some, None, IsSome, Result, Ok, Err, IfOk, option_map, slice_get, cond, subst, sym, ap, arith}
 use Rattle.std.proofs.lemmas.Option.{slice_get_past}
 use Rattle.std.specs.declared.alloc.AllocError.{AllocError}
 use Rattle.wac_types_base.specs.declared.item.ItemKind.{ItemKind}
@@ -17,33 +17,33 @@ use Rattle.wac_parser_declare.specs.Added.{IsNew, IsNewType}
 
 -- no entry stands behind the last
 none_past : {E : Type 0} (f : E → Entry) (es : List E) (b : Bool) → IsSome (cond b (option_map f (slice_get es (length es))) None) → ⊥
-none_past f es true s = let P : Option _ → Type 0 = λ o. IsSome (option_map f o) in subst P (slice_get_past es (length es) (omega arith)) s
-none_past f es false s = s
+none_past f es true s = let P : Option _ → Type 0 = λ o. IsSome (option_map f o) in true≢false (sym (subst P (slice_get_past es (length es) (omega arith)) s))
+none_past f es false s = true≢false (sym s)
 
 module _ (c : Collection) where
   pub defined_fresh : (r : Result DefinedTypeId AllocError) → IfOk r (λ i. i ≡ record { collection = c.number; index = length c.defined_types }) → IfOk r (λ i. IsNew c (ItemKind.Value (ValueType.Defined i)))
   unfolding item_node
-  defined_fresh (Ok i) e = rw e (record { absent = none_past defined_entry c.defined_types _ })
+  defined_fresh (Ok i) e = rw e (record { absent = none_past defined_entry c.defined_types (c.number == c.number) })
   defined_fresh (Err f) e = tt
 
   pub resource_fresh : (r : Result ResourceId AllocError) → IfOk r (λ i. i ≡ record { collection = c.number; index = length c.resources }) → IfOk r (λ i. IsNew c (ItemKind.Ty (TypeKind.Resource i)))
   unfolding item_node
-  resource_fresh (Ok i) e = rw e (record { absent = none_past resource_entry c.resources _ })
+  resource_fresh (Ok i) e = rw e (record { absent = none_past resource_entry c.resources (c.number == c.number) })
   resource_fresh (Err f) e = tt
 
   pub func_fresh : (r : Result FuncTypeId AllocError) → IfOk r (λ i. i ≡ record { collection = c.number; index = length c.func_types }) → IfOk r (λ i. IsNew c (ItemKind.Func i))
   unfolding item_node
-  func_fresh (Ok i) e = rw e (record { absent = none_past func_entry c.func_types _ })
+  func_fresh (Ok i) e = rw e (record { absent = none_past func_entry c.func_types (c.number == c.number) })
   func_fresh (Err f) e = tt
 
   pub interface_fresh : (r : Result InterfaceId AllocError) → IfOk r (λ i. i ≡ record { collection = c.number; index = length c.interfaces }) → IfOk r (λ i. IsNew c (ItemKind.Instance i))
   unfolding item_node
-  interface_fresh (Ok i) e = rw e (record { absent = none_past interface_entry c.interfaces _ })
+  interface_fresh (Ok i) e = rw e (record { absent = none_past interface_entry c.interfaces (c.number == c.number) })
   interface_fresh (Err f) e = tt
 
   pub world_fresh : (r : Result WorldId AllocError) → IfOk r (λ i. i ≡ record { collection = c.number; index = length c.worlds }) → IfOk r (λ i. IsNew c (ItemKind.Component i))
   unfolding item_node
-  world_fresh (Ok i) e = rw e (record { absent = none_past world_entry c.worlds _ })
+  world_fresh (Ok i) e = rw e (record { absent = none_past world_entry c.worlds (c.number == c.number) })
   world_fresh (Err f) e = tt
 
   pub value_new : (v : ValueType) → IsNew c (ItemKind.Value v) → IsNewType c (TypeKind.Value v)
@@ -57,8 +57,6 @@ module _ (c : Collection) where
 
   pub world_new : (w : WorldId) → IsNew c (ItemKind.Component w) → IsNewType c (TypeKind.World w)
   world_new w n = record { absent = λ s. n.absent (stands_typed_world c w s); plain = λ r e. cc }
-
-pub ruleset fresh = (defined_fresh, resource_fresh, func_fresh, interface_fresh, world_fresh)
 
 pub new_before : (c d : Collection) (k : ItemKind) → Grows c d → IsNew d k → IsNew c k
 new_before c d k g n = record { absent = λ s. n.absent (g.stand k s) }

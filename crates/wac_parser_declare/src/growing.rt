@@ -1,5 +1,5 @@
 //! Collections that grow.
-#![tactic(auto, using(crate::proofs::Added::added, crate::proofs::Fresh::fresh))]
+#![tactic(auto, using(crate::proofs::Added::added))]
 
 ghost use Rattle.std.specs.Prelude.{◌≡◌, IfOk, None};
 ghost use Rattle.std.specs.Coded.{coded_ℕ};

@@ -28,7 +28,6 @@ use Rattle.wac_types_base.specs.declared.ids.WorldId.{WorldId}
 use Rattle.wac_types_base.specs.Copying.{IsCopy}
 use Rattle.wac_types_base.proofs.Slots.{stands_typed_world}
 use Rattle.wac_parser_resolve.specs.Keeping.{Keeps}
-use Rattle.wac_parser_declare.proofs.Fresh.{defined_fresh, resource_fresh, func_fresh, interface_fresh, world_fresh}
 use Rattle.wac_parser_declare.proofs.Added.{defined_added, resource_added, func_added, interface_added, world_added}
 use Rattle.wac_types_base.proofs.Copying.{last_place}
 
@@ -138,4 +137,4 @@ enlarged g h e = e.grows
 pub copy_stands : (c d : Collection) (k j : ItemKind) → IsCopy c d k j → Stands d j
 copy_stands c d k j h = h.stands
 
-pub ruleset keeping = (copy_stands, enlarged, stands_typed_world, lent_defined, lent_resource, lent_func, lent_interface, lent_world, defined_fresh, resource_fresh, func_fresh, interface_fresh, world_fresh, registered, Keeps-registered, Keeps-enlarged, Keeps-refl, Keeps-trans, Keeps-types, found_package)
+pub ruleset keeping = (copy_stands, enlarged, stands_typed_world, lent_defined, lent_resource, lent_func, lent_interface, lent_world, registered, Keeps-registered, Keeps-enlarged, Keeps-refl, Keeps-trans, Keeps-types, found_package)
