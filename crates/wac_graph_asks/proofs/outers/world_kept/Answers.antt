@@ -16,7 +16,7 @@ returns-clause-children c =
     let imported = subst (λ (xs : List Ask). OnOk c.add_imports-added.result (AddsImports c.args.asked.now.types xs c.args.classes.now c.args.taken.now.entries c.add_imports-added.new.types c.add_imports-added.new.imports)) c.deref.ensures.value c.add_imports-added.ensures.adds in
     filled_so c.filled.result _ c.add_imports-added.result (λ w. HasChildren c.add_imports-added.new.types (world_entry w)) c.filled.ensures.value c.filled.ensures.added
     (on_ok_weaker c.add_imports-added.result
-    (world_names_standing c.args.asked.now.types c.add_imports-added.new.types c.args.asked.now.asks.items c.args.classes.now c.args.taken.now.entries _ c.requires.classed c.requires.taken (record { uses = c.bare_world-world.ensures.alone.uses; exports = c.bare_world-world.ensures.alone.exports }))
+    (world_names_standing c.args.asked.now.types c.add_imports-added.new.types c.args.asked.now.asks.items c.args.classes.now c.args.taken.now.entries (record c.bare_world-world.result { imports = c.add_imports-added.new.imports }) c.requires.classed c.requires.taken (record { uses = c.bare_world-world.ensures.alone.uses; exports = c.bare_world-world.ensures.alone.exports }))
     imported)
 
 pub returns-clause-alone : goal.returns-clause-alone
