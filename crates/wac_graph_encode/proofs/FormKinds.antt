@@ -101,6 +101,59 @@ own_form c acyclic t stands e = plain_form (stated_of c (ItemKind.Ty t)) (ap has
 
 -- ---- the form of an interface or a world is one
 
+whole_typed : (s : Shape) (ts : Wholes Shape) → is_whole (shape_kind (type_of s)) ≡ true → is_whole (kind_of (written_definition (node (type_of s) ts))) ≡ true
+whole_typed (interface None us es) ts e = refl
+whole_typed (interface (Some n) us es) ts e = refl
+whole_typed (world None us is es) ts e = refl
+whole_typed (world (Some n) us is es) ts e = refl
+whole_typed (primitive p) ts e = absurd (true≢false (sym e))
+whole_typed tuple ts e = absurd (true≢false (sym e))
+whole_typed list ts e = absurd (true≢false (sym e))
+whole_typed (fixed_size_list n) ts e = absurd (true≢false (sym e))
+whole_typed option ts e = absurd (true≢false (sym e))
+whole_typed result ts e = absurd (true≢false (sym e))
+whole_typed (variant ns) ts e = absurd (true≢false (sym e))
+whole_typed (record_of ns) ts e = absurd (true≢false (sym e))
+whole_typed (flags ns) ts e = absurd (true≢false (sym e))
+whole_typed (enum ns) ts e = absurd (true≢false (sym e))
+whole_typed alias ts e = absurd (true≢false (sym e))
+whole_typed stream ts e = absurd (true≢false (sym e))
+whole_typed future ts e = absurd (true≢false (sym e))
+whole_typed (resource n) ts e = absurd (true≢false (sym e))
+whole_typed (resource_alias n) ts e = absurd (true≢false (sym e))
+whole_typed (func ps a) ts e = absurd (true≢false (sym e))
+whole_typed (module_type m) ts e = absurd (true≢false (sym e))
+whole_typed (borrow_of s) ts e = absurd (true≢false (sym e))
+whole_typed (own_of s) ts e = absurd (true≢false (sym e))
+whole_typed (type_of s) ts e = absurd (true≢false (sym e))
+
+whole_shape : (s : Shape) (ts : Wholes Shape) → is_whole (shape_kind s) ≡ true → is_whole (kind_of (written_definition (node s ts))) ≡ true
+whole_shape (type_of s) ts e = whole_typed s ts e
+whole_shape (primitive p) ts e = absurd (true≢false (sym e))
+whole_shape tuple ts e = absurd (true≢false (sym e))
+whole_shape list ts e = absurd (true≢false (sym e))
+whole_shape (fixed_size_list n) ts e = absurd (true≢false (sym e))
+whole_shape option ts e = absurd (true≢false (sym e))
+whole_shape result ts e = absurd (true≢false (sym e))
+whole_shape (variant ns) ts e = absurd (true≢false (sym e))
+whole_shape (record_of ns) ts e = absurd (true≢false (sym e))
+whole_shape (flags ns) ts e = absurd (true≢false (sym e))
+whole_shape (enum ns) ts e = absurd (true≢false (sym e))
+whole_shape alias ts e = absurd (true≢false (sym e))
+whole_shape stream ts e = absurd (true≢false (sym e))
+whole_shape future ts e = absurd (true≢false (sym e))
+whole_shape (resource n) ts e = absurd (true≢false (sym e))
+whole_shape (resource_alias n) ts e = absurd (true≢false (sym e))
+whole_shape (func ps a) ts e = absurd (true≢false (sym e))
+whole_shape (interface i us es) ts e = absurd (true≢false (sym e))
+whole_shape (world i us is es) ts e = absurd (true≢false (sym e))
+whole_shape (module_type m) ts e = absurd (true≢false (sym e))
+whole_shape (borrow_of s) ts e = absurd (true≢false (sym e))
+whole_shape (own_of s) ts e = absurd (true≢false (sym e))
+
+whole_stated : (x : Stated) → is_whole (kind_of x) ≡ true → is_whole (kind_of (written_definition x)) ≡ true
+whole_stated (node s ts) e = whole_shape s ts e
+
 unused_plain : (t : TypeKind) → uses_others t ≡ false → is_whole (item_kind (ItemKind.Ty t)) ≡ false
 unused_plain (TypeKind.Resource r) e = refl
 unused_plain (TypeKind.Func f) e = refl

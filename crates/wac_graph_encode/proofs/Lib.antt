@@ -1,4 +1,5 @@
 pub mod Entries
+pub mod Counted
 pub mod Finishing
 pub mod StandingTrees
 pub mod StandingNumbers

@@ -1,6 +1,6 @@
 -- Packages that are nested at the root: their indexes stand for their bytes, and what stood stands.
 use Rattle.std.specs.Prelude.{slice_get}
-use Rattle.std.proofs.Common.{◌≡◌, ◌⊎◌, ℕ, ◌+◌, Bool, true, false, cond, List, [], ◌∷◌, ◌++◌, map, length, Option, Some, inl, inr, refl, sym, ap, subst, ◌∙◌, ◌↔◌, IsTrue, append_assoc, arith}
+use Rattle.std.proofs.Common.{◌≡◌, ◌⊎◌, ◌<◌, ◌≤◌, ℕ, ◌+◌, Bool, true, false, cond, List, [], ◌∷◌, ◌++◌, map, length, Option, Some, inl, inr, refl, sym, ap, subst, ◌∙◌, ◌↔◌, IsTrue, append_assoc, arith}
 use Rattle.std.proofs.lemmas.List.{map-append, append-nil, length_push, length-append, length-map}
 use Rattle.std.proofs.lemmas.List.Sums.{fold-append}
 use Rattle.indexmap.specs.IndexMap.{insert_entry, insert_all}
@@ -22,8 +22,9 @@ use Rattle.wac_graph_core.specs.contracts.ids.PackageIdPartialEq.TheImpl as pack
 use Rattle.wac_graph_core.specs.Graph.{Graph}
 use Rattle.wac_graph_encode.specs.declared.root.Root.{Root}
 use Rattle.wac_graph_encode.specs.Standing.{counted, IsPackageAt}
-use Rattle.wac_graph_encode.specs.Nesting.{bytes_in, bytes_of, numbered, IsTold, NestsAll, NestsOne}
+use Rattle.wac_graph_encode.specs.Nesting.{bytes_in, bytes_of, numbered, IsCounted, IsTold, NestsAll, NestsOne, NumbersAll}
 use Rattle.wac_graph_encode.proofs.Entries.{same_package}
+use Rattle.wac_graph_encode.proofs.Counted.{count_most, few_entries}
 
 -- ---- one more package
 
@@ -42,29 +43,42 @@ if_none false x = omega arith
 pub nests_none : (g : Graph) (r : Root) → NestsAll g [] r r
 nests_none g r = record {
   entries = sym (append-nil (map view r.entries.items));
-  counts = λ s. if_none (same_sort s sort.Component) (counted r.counts s);
-  packages = refl;
+  numbers = λ p. record { counts = λ s. if_none (same_sort s sort.Component) (counted r.counts s); packages = refl };
   others = record { imports = refl; nodes = refl };
 }
 
+-- one more has the next index
+numbered_more : (g : Graph) (ids : List PackageId) (id : PackageId) (old mid new : Root) → NestsOne id (bytes_of g id) mid new → NumbersAll ids old mid → counted mid.counts sort.Component < 18446744073709551615 → NumbersAll (ids ++ id ∷ []) old new
+numbered_more g ids id old mid new o n low =
+    let k = counted old.counts sort.Component in
+    let at : counted mid.counts sort.Component ≡ k + length ids = n.counts sort.Component in
+    record {
+      counts = λ s. if_sum (same_sort s sort.Component) (counted old.counts s) (counted mid.counts s) (counted new.counts s) (length ids) (length (ids ++ id ∷ [])) (o.counts low s) (n.counts s) (length_push ids id);
+      packages =
+          o.packages ∙ ap (λ n. insert_entry package_id.eq-value.it mid.packages.entries id n) at
+          ∙ ap (λ (es : List (PackageId × ℕ)). insert_entry package_id.eq-value.it es id (k + length ids)) n.packages
+          ∙ sym (fold-append (λ (es : List (PackageId × ℕ)) (x : PackageId × ℕ). insert_entry package_id.eq-value.it es x.0 x.1) old.packages.entries (numbered k ids) ((id, k + length ids) ∷ []))
+          ∙ ap (insert_all package_id.eq-value.it old.packages.entries) (sym (numbered_push k ids id));
+    }
+
 pub nests_more : (g : Graph) (ids : List PackageId) (id : PackageId) (old mid new : Root) → NestsAll g ids old mid → NestsOne id (bytes_of g id) mid new → NestsAll g (ids ++ id ∷ []) old new
 nests_more g ids id old mid new h o =
-    let k = counted old.counts sort.Component in
     let nest : PackageId → Entry = λ i. Nested (bytes_of g i) in
-    let at : counted mid.counts sort.Component ≡ k + length ids = h.counts sort.Component in
+    let grown : length mid.entries.items ≡ length old.entries.items + length ids = sym (length-map mid.entries.items view) ∙ ap length h.entries ∙ length-append (map view old.entries.items) (map nest ids)
+    ∙ (λ j. length-map old.entries.items view j + length-map ids nest j) in
     record {
       entries =
           ap (map view) o.entry.added ∙ map-append view mid.entries.items (o.entry.entry ∷ []) ∙ ap (λ (e : Entry). map view mid.entries.items ++ e ∷ []) o.entry.is
           ∙ ap (λ (es : List Entry). es ++ nest id ∷ []) h.entries ∙ append_assoc (map view old.entries.items) (map nest ids) (nest id ∷ [])
           ∙ ap (λ (es : List Entry). map view old.entries.items ++ es) (sym (map-append nest ids (id ∷ [])));
-      counts = λ s. if_sum (same_sort s sort.Component) (counted old.counts s) (counted mid.counts s) (counted new.counts s) (length ids) (length (ids ++ id ∷ [])) (o.counts s) (h.counts s) (length_push ids id);
-      packages =
-          o.packages ∙ ap (λ n. insert_entry package_id.eq-value.it mid.packages.entries id n) at
-          ∙ ap (λ (es : List (PackageId × ℕ)). insert_entry package_id.eq-value.it es id (k + length ids)) h.packages
-          ∙ sym (fold-append (λ (es : List (PackageId × ℕ)) (x : PackageId × ℕ). insert_entry package_id.eq-value.it es x.0 x.1) old.packages.entries (numbered k ids) ((id, k + length ids) ∷ []))
-          ∙ ap (insert_all package_id.eq-value.it old.packages.entries) (sym (numbered_push k ids id));
+      numbers = λ p. numbered_more g ids id old mid new o (h.numbers p) (low p (h.numbers p) grown);
       others = record { imports = o.others.imports ∙ h.others.imports; nodes = o.others.nodes ∙ h.others.nodes };
     }
+  where
+    low : IsCounted old → NumbersAll ids old mid → length mid.entries.items ≡ length old.entries.items + length ids → counted mid.counts sort.Component < 18446744073709551615
+    low p n grown =
+        let at : counted mid.counts sort.Component ≡ counted old.counts sort.Component + length ids = n.counts sort.Component in
+        omega (arith, at, p, grown, few_entries mid)
 
 -- so many are nested, and the others are left
 pub record Nesting (g : Graph) (all rest : List PackageId) (old now : Root) : Type 0 where
@@ -167,9 +181,12 @@ module _ (g : Graph) (ids : List PackageId) (old new : Root) (h : NestsAll g ids
   nested_keeps s i m e = entry_steps.stands_on worlds (map (nest g) ids) st (with_nested g ids st) s i m (nested_steps worlds g ids st) e
 
   module _ (counts : (s : Sort) → counted old.counts s ≡ count_of s old.entries.items) where
+    numbers : NumbersAll ids old new
+    numbers = h.numbers (omega (arith, counts sort.Component, count_most sort.Component old.entries.items))
+
     pub nested_counts : (s : Sort) → counted new.counts s ≡ count_of s new.entries.items
     nested_counts s =
-        h.counts s ∙ ap (λ n. n + cond (same_sort s sort.Component) (length ids) 0) (counts s ∙ sym (entry_steps.counted worlds old.entries.items st s reads))
+        numbers.counts s ∙ ap (λ n. n + cond (same_sort s sort.Component) (length ids) 0) (counts s ∙ sym (entry_steps.counted worlds old.entries.items st s reads))
         ∙ sym (lengths g ids st s) ∙ entry_steps.counted worlds new.entries.items (with_nested g ids st) s nested_reads
 
     -- the index of a package that is nested stands for its bytes
@@ -179,7 +196,7 @@ module _ (g : Graph) (ids : List PackageId) (old new : Root) (h : NestsAll g ids
     -- A package stands at its index.
     pub package_stands : (id : PackageId) (index : ℕ) → (Among id ids → IsTold true g worlds id) → (Among (id, index) old.packages.entries → IsPackageAt g worlds true st id index)
         → Among (id, index) new.packages.entries → IsPackageAt g worlds true (with_nested g ids st) id index
-    package_stands id index held before m = go (all_among package_id.eq-value.it same_package old.packages.entries (numbered (counted old.counts sort.Component) ids) (id, index) (subst (Among (id, index)) h.packages m))
+    package_stands id index held before m = go (all_among package_id.eq-value.it same_package old.packages.entries (numbered (counted old.counts sort.Component) ids) (id, index) (subst (Among (id, index)) numbers.packages m))
       where
         go : Among (id, index) old.packages.entries ⊎ Among (id, index) (numbered (counted old.counts sort.Component) ids) → IsPackageAt g worlds true (with_nested g ids st) id index
         go (inl n) = let a = before n in record { of = a.of; is = a.is; meaning = a.meaning; at = nested_keeps sort.Component index a.meaning a.at; tag = a.tag; world = a.world }

@@ -30,6 +30,7 @@ use Rattle.wac_graph_asks.specs.Reads.{AreArguments, import_name_of, package_id_
 use Rattle.wac_graph_encode.specs.Standing.{IsOuterAt, IsWritten}
 use Rattle.wac_graph_encode.specs.Writing.{AddsIndex, AreCalled, IsBegun, AreGivenAt, AreGivenUnder, IsAliasAt, PassesAll, WrittenSo, WrittenWith, noted}
 use Rattle.wac_graph_encode.proofs.WritingLaws.{all_given}
+use Rattle.wac_graph_encode.proofs.Counted.{has_next}
 use Rattle.wac_graph_encode.proofs.StandingSteps.{alias_written}
 use Rattle.wac_graph_encode.proofs.StandingInstances.{import_written, instance_written_on}
 
@@ -47,7 +48,7 @@ module _ (w : Wired) (is : IsGraph w.graph.now) (finite : IsAcyclic w.graph.now.
   alias_wired s index n a add define worlds asked h =
       moved w.graph.now worlds define asked w.outers new.packages.entries w.root.packages.entries new.entries.items _ new.counts (noted w ++ (k, place) ∷ []) _ (ap (λ m. m.entries) add.packages) add.entry.added (ap (λ p. noted w ++ (k, p) ∷ []) add.index)
       (alias_written w.graph.now is finite worlds define asked w.outers w.root.packages.entries w.root.entries.items w.root.counts (noted w) h a.from k n a.place a.item.node s a.stands a.edge a.item.there a.item.kind
-      add.entry.entry new.counts (add.entry.is ∙ ap (λ i. Aliased (ExportAlias s i n)) a.same) add.counts)
+      add.entry.entry new.counts (add.entry.is ∙ ap (λ i. Aliased (ExportAlias s i n)) a.same) (add.counts (has_next w.root s (h.counts s))))
 
   module _ (id : PackageId) (index : ℕ) (bound : List (Name × ℕ)) (as_ : List Argument) (of_is : package_id_of (node_at w.graph.now k) ≡ Some id) (at : Among (id, index) w.root.packages.entries) (are : AreArguments w.graph.now k bound)
       (passes : PassesAll w id bound as_) (add : AddsIndex w.root new (Instantiate index as_) sort.Instance place) where
@@ -61,7 +62,7 @@ module _ (w : Wired) (is : IsGraph w.graph.now) (finite : IsAcyclic w.graph.now.
         let p = h.packages id index at in
         let all = passes p.of p.is in
         moved w.graph.now worlds define asked w.outers new.packages.entries w.root.packages.entries new.entries.items _ new.counts (noted w ++ (k, place) ∷ []) _ (ap (λ m. m.entries) add.packages) add.entry.added (ap (λ q. noted w ++ (k, q) ∷ []) add.index)
-        (instance_written_on w.graph.now is worlds define asked w.outers w.root.packages.entries w.root.entries.items w.root.counts (noted w) h k x.0 id index as_ _ x.1 x.2 at all.0 (all.1 k are) (λ of e. ap (λ (q : Packaged). names_of (imports_of w.graph.now.types q.ty)) (some_same e p.is)) fresh add.entry.entry new.counts add.entry.is add.counts)
+        (instance_written_on w.graph.now is worlds define asked w.outers w.root.packages.entries w.root.entries.items w.root.counts (noted w) h k x.0 id index as_ _ x.1 x.2 at all.0 (all.1 k are) (λ of e. ap (λ (q : Packaged). names_of (imports_of w.graph.now.types q.ty)) (some_same e p.is)) fresh add.entry.entry new.counts add.entry.is (add.counts (has_next w.root sort.Instance (h.counts sort.Instance))))
       where
         some_same : {A : Type 0} {x y : A} {o : Option A} → o ≡ Some x → o ≡ Some y → x ≡ y
         some_same e f = cc (e, f)

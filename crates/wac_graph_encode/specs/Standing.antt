@@ -1,5 +1,5 @@
 -- What stands at the root of a component while the instances of a graph are written.
-use Rattle.std.specs.Prelude.{◌≡◌, ◌==◌, ℕ, ◌+◌, Bool, true, if◌then◌else◌, List, [], map, Some, IsSome, slice_get}
+use Rattle.std.specs.Prelude.{◌≡◌, ◌==◌, ◌<◌, ℕ, ◌+◌, Bool, true, if◌then◌else◌, List, [], map, Some, IsSome, slice_get}
 use Rattle.std.specs.List.{AllZip, position_or_len}
 use Rattle.wac_types_base.specs.declared.item.ItemKind.{ItemKind}
 use Rattle.wac_types_base.specs.Entries.{Name, AreDistinct, names_of, value_at}
@@ -43,6 +43,10 @@ counted c sort.Module = c.modules
 -- one more index of the sort is counted
 abbrev pub CountsOne : Sort → Counts → Counts → Type 0
 CountsOne s c d = (t : Sort) → counted d t ≡ counted c t + (if same_sort t s then 1 else 0)
+
+-- so it is where a number counts it
+abbrev pub CountsNext : Sort → Counts → Counts → Type 0
+CountsNext s c d = counted c s < 18446744073709551615 → CountsOne s c d
 
 -- the number of an instance: its place in the order in which instances were written
 abbrev pub number_in : List ℕ → ℕ → ℕ

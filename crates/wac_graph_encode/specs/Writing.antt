@@ -26,7 +26,7 @@ use Rattle.wac_graph_encode.specs.declared.instances.Wired.{Wired}
 use Rattle.wac_graph_encode.specs.declared.instances.Standing.{Standing}
 use Rattle.wac_graph_scopes.specs.Items.{sort_of}
 use Rattle.wac_graph_encode.specs.Encoding.{nested_at}
-use Rattle.wac_graph_encode.specs.Standing.{counted, CountsOne, IsFinished, IsGivenAt, IsOuterAt, IsWritten}
+use Rattle.wac_graph_encode.specs.Standing.{counted, CountsNext, IsFinished, IsGivenAt, IsOuterAt, IsWritten}
 
 -- ---- entries
 
@@ -39,7 +39,7 @@ pub record AddsEntry (old new : List CodeEntry) (x : Entry) : Type 0 where
 -- one more entry, and with it the next index of the sort
 pub record AddsIndex (old new : Root) (x : Entry) (s : Sort) (p : SortIndex) : Type 0 where
   pub entry : AddsEntry old.entries.items new.entries.items x
-  pub counts : CountsOne s old.counts new.counts
+  pub counts : CountsNext s old.counts new.counts
   pub index : p ≡ record { sort = s; index = counted old.counts s }
   pub nodes : new.nodes ≡ old.nodes
   pub packages : new.packages ≡ old.packages

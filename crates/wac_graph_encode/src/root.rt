@@ -1,6 +1,6 @@
 //! The types and the imports of a composition, as entries.
 
-ghost use Rattle.std.specs.Prelude.{◌≡◌, ◌+◌, ◌++◌, [], ◌∷◌, ℕ, List, IfOk, OnOk, if◌then◌else◌, map, option_to_list};
+ghost use Rattle.std.specs.Prelude.{◌≡◌, ◌+◌, ◌<◌, ◌++◌, [], ◌∷◌, ℕ, List, IfOk, OnOk, if◌then◌else◌, map, option_to_list};
 ghost use Rattle.wac_types_base.specs.Record.{Collection};
 ghost use Rattle.wac_types_base.specs.Entries.{names_of};
 ghost use Rattle.wac_graph_bytes.specs.declared.value.Sort.{Sort as SortKind};
@@ -12,7 +12,7 @@ ghost use Rattle.wac_graph_scopes.specs.Scopes.{AreKnown};
 ghost use Rattle.wac_graph_scopes.specs.Items.{HasEntry};
 ghost use Rattle.wac_graph_scopes.specs.Imports.{WritesInOrder};
 ghost use Rattle.wac_graph_scopes.specs.Roots.{root_entries};
-ghost use Rattle.wac_graph_encode.specs.Standing.{counted, CountsOne};
+ghost use Rattle.wac_graph_encode.specs.Standing.{counted, CountsNext};
 ghost use Rattle.wac_graph_encode.specs.Writing.{AddsEntry, AddsIndex, AddsInstance};
 ghost use Rattle.wac_graph_encode.specs.Rooting.{AddsRead, IsNewScope, ReadsAtRoot, TakesScope, WritesItem, WritesOuters, WritesOwn, counter};
 ghost use Rattle.wac_graph_encode.specs.Defining.{AddsDefinitions, WritesDefinition, WritesDefinitions};
@@ -69,11 +69,11 @@ impl Drop for Root {
     }
 }
 
-/// The count after this one. No memory holds as many things as this cannot count.
-pub(crate) fn next_index(index: u64) -> Result<u64, AllocError>
-    ensures { IfOk result (λ next. next ≡ index + 1) }
+/// The count after this one. No list that is counted is as long as the greatest number.
+pub(crate) fn next_index(index: u64) -> u64
+    ensures { index < 18446744073709551615 → result ≡ index + 1 }
 {
-    index.checked_add(1).ok_or(AllocError)
+    index.saturating_add(1)
 }
 
 /// Adds an entry.
@@ -349,7 +349,7 @@ fn nest_package(
     ensures { OnOk result (NestsOne id bytes.now root.old root.new) }
 {
     let index = root.counts.components;
-    root.counts.components = next_index(index)?;
+    root.counts.components = next_index(index);
     push_nested(alloc, &mut root.entries, bytes)?;
     let _ = root.packages.insert(id, index)?;
     Ok(())
@@ -430,14 +430,14 @@ fn set_count(counts: &mut Counts, sort: Sort, next: u64)
 }
 
 /// The index of one more thing of a sort.
-fn count_one(counts: &mut Counts, sort: Sort) -> Result<u64, AllocError>
-    ensures index { IfOk result (λ k. k ≡ counted counts.old sort) }
-    ensures counts { OnOk result (CountsOne sort counts.old counts.new) }
+fn count_one(counts: &mut Counts, sort: Sort) -> u64
+    ensures index { result ≡ counted counts.old sort }
+    ensures counts { CountsNext sort counts.old counts.new }
 {
     let index = count_of(counts, sort);
-    let next = next_index(index)?;
+    let next = next_index(index);
     set_count(counts, sort, next);
-    Ok(index)
+    index
 }
 
 impl Root {
@@ -446,7 +446,7 @@ impl Root {
         ensures { IfOk result (AddsIndex self.old self.new (view entry) sort) }
     {
         push_entry(&mut self.entries, entry)?;
-        let index = count_one(&mut self.counts, sort)?;
+        let index = count_one(&mut self.counts, sort);
         Ok(SortIndex { sort, index })
     }
 
