@@ -18,7 +18,7 @@ use Rattle.wac_composition.specs.Circles.{written_inside, written_whole}
 use Rattle.std.specs.Option.{option_or}
 use Rattle.wac_composition.specs.Conflicts.{Cause, Unwritable, first_found, implicit_with, implicit_by, implicit_conflict, merge_cause, merge_fails, those_in, merge_conflict, cause_at, placed, unwritable_cause, circle_cause, late_unwritable, whole_forms, outers_written, dependencies_of, first_cause}
 use Rattle.wac_composition.specs.Against.{IsUnmerged, StandsAgainst, asked_twice, import_unmerged, ask_unmerged, alias_of_value, outer_import, outer_in_circle, circle_in_definition, circle_in_package, definition, imported_package, FirstStands}
-use Rattle.wac_composition.proofs.NotFound.{written_decides}
+use Rattle.wac_composition.proofs.NotFound.{written_decides, package_decides_of}
 use Rattle.wac_composition.proofs.Lists.{mapped_among}
 
 -- ---- the first that is found
@@ -191,7 +191,7 @@ module _ {A I : Type 0} (define : Bool) (c : Composition A I) where
             subst Stands (ap (λ e. Unwritable e.0) (sym d.2) ∙ f.3) (definition d.0 d.1 ((written_decides false (holder [] outers) d.0.name (as_defined d.0.item)).0 p))
         | inr t ↦
             let f = cause_some package_unwritable (dependencies_of define c) x t.1 in
-            subst Stands f.3 (imported_package f.0.0 f.0.1 f.1 ((written_decides true (holder [] []) f.0.0 f.0.1).0 f.2))
+            subst Stands f.3 (imported_package f.0.0 f.0.1 f.1 ((package_decides_of f.0.0 f.0.1).0 f.2))
       ]
     ]
   ]
@@ -263,7 +263,7 @@ module _ {A I : Type 0} (define : Bool) (c : Composition A I) where
       go p q r s t v w y z x (circle_in_package n u m f) = cause_none (late_unwritable true) of_packages z (n, u) m ((written_decides true (holder [] []) n u).1 f)
       go p q r s t v w y z x (definition d m f) =
           cause_none (definition_unwritable outers) (placed c.definitions) t (d.name, d.item) (among_mapped (λ d. (d.name, d.item)) c.definitions d m) ((written_decides false (holder [] outers) d.name (as_defined d.item)).1 f)
-      go p q r s t v w y z x (imported_package n u m f) = cause_none package_unwritable (dependencies_of define c) v (n, u) m ((written_decides true (holder [] []) n u).1 f)
+      go p q r s t v w y z x (imported_package n u m f) = cause_none package_unwritable (dependencies_of define c) v (n, u) m ((package_decides_of n u).1 f)
 
   pub causes_stand : FirstStands define c
   causes_stand = record { stands = first_stands; none = none_stands }

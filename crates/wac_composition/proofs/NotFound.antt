@@ -14,8 +14,8 @@ use Rattle.wac_types_base.specs.Stated.{Stated, folded, folded_row, places_of, w
 use Rattle.wac_types_base.specs.Tree.{tree}
 use Rattle.wac_composition.specs.Tests.{same_tree}
 use Rattle.wac_types_written.specs.Written.{is_type}
-use Rattle.wac_composition.specs.Writable.{Holder, is_resource, is_fresh, root_of, is_given, stated_at, value_fails, Needed, Found, some_unnamed, Item, plain, some_fails, used_of, interface_fails, type_items, needed_from, below_items, all_needed, stands_as, is_given_by, use_fails, with_roots, holder, world_holder, world_fails, any_value, simple, found_interface, found_at, unwritable, item_in, writable_module, given_in, has_items, WritingTest, needs_of_use}
-use Rattle.wac_composition.specs.NotWritten.{IsGiven, HasRoot, Dangles, Needs, a_use, under_use, under_item, IsImported, type_exports, component_holder, CannotBeWritten, a_value, core_items, module_as_type, renamed, an_alias, a_function, a_function_type, a_value_type, an_instance, an_interface, a_component, a_world, ItemsFail, unnamed, an_item, ComponentFails, unnamed_use, not_imported, not_added, an_import, an_export}
+use Rattle.wac_composition.specs.Writable.{Holder, is_resource, is_fresh, root_of, is_given, stated_at, value_fails, Needed, Found, some_unnamed, Item, plain, some_fails, used_of, interface_fails, type_items, needed_from, below_items, all_needed, stands_as, is_given_by, use_fails, with_roots, holder, world_holder, world_fails, any_value, simple, found_interface, over_exports, package_fails, found_component, found_at, unwritable, package_unwritable, item_in, writable_module, given_in, has_items, WritingTest, needs_of_use}
+use Rattle.wac_composition.specs.NotWritten.{IsGiven, HasRoot, Dangles, Needs, a_use, under_use, under_item, IsImported, type_exports, component_holder, CannotBeWritten, a_value, core_items, module_as_type, renamed, an_alias, a_function, a_function_type, a_value_type, an_instance, an_interface, a_component, a_world, ItemsFail, unnamed, an_item, ComponentFails, unnamed_use, not_imported, not_added, an_import, an_export, given_to_exports, PackageFails, unnamed_in_package, not_imported_by, not_given_by, import_of_package, export_of_package, PackageCannotBeWritten}
 use Rattle.wac_composition.proofs.Closures.{filter_among}
 use Rattle.wac_composition.proofs.KeptFits.{folded_firsts}
 use Rattle.wac_composition.proofs.NotWritten.{any_decides, has_decides, trees_decide, given_decides, resource_decides, value_decides, any_value_decides, stated_again}
@@ -236,17 +236,62 @@ module _ (us : List (Used × Found)) (es : List Item) (fu : UsesFound us) (fe : 
 
 -- ---- component types
 
+plain_both : (xs ys : List Item) → plain (xs ++ ys) ≡ plain xs ++ plain ys
+plain_both [] ys = refl
+plain_both (x ∷ xs) ys = ap (λ l. (x.0, x.1.0) ∷ l) (plain_both xs ys)
+
+below_both : (xs ys : List Item) → below_items (xs ++ ys) ≡ below_items xs ++ below_items ys
+below_both [] ys = refl
+below_both (x ∷ xs) ys = ap (λ l. x.1.1.uses ++ l) (below_both xs ys) ∙ sym (append_assoc x.1.1.uses (below_items xs) (below_items ys))
+
+-- what an import has
+imported_decides : (is : List Item) (u : Used) (n : Name) → Decides (is_given_by (value_at is n) u) (IsImported (plain is) n u)
+imported_decides is u n = go (value_at is n) (plain_value is n)
+  where
+    stands : (x y : Option Stated) → Decides (stands_as x y) ((z : Stated) → x ≡ Some z → (w : Stated) × (y ≡ Some w) × (tree z ≡ tree w))
+    stands None y = (λ e z q. absurd (none-some _ q), λ h. refl)
+    stands (Some x) None = (λ e. absurd (true≢false (sym e)), λ h. absurd (let r = h x refl in none-some _ r.1))
+    stands (Some x) (Some y) = (
+      λ q z r. (y, refl, ap tree (sym (same_Some _ _ r)) ∙ (trees_decide x y).0 q),
+      λ h. let w = h x refl in (trees_decide x y).1 (w.2 ∙ ap tree (sym (same_Some _ _ w.1))),
+    )
+
+    go : (o : Option (Stated × Found)) → value_at (plain is) n ≡ option_map (λ x. x.0) o → Decides (is_given_by o u) (IsImported (plain is) n u)
+    go None e = (λ q. absurd (true≢false (sym q)), λ h. absurd (none-some _ (sym e ∙ h.there)))
+    go (Some x) e =
+        let d = stands (item_in u.interface u) (given_in x.0 u) in (
+          λ q. record { interface = x.0; there = e; item = d.0 q },
+          λ h. let s : x.0 ≡ h.interface = same_Some _ _ (sym e ∙ h.there) in
+              d.1 (λ z r. let w = h.item z r in (w.0, ap (λ i. given_in i u) s ∙ w.1, w.2)),
+        )
+
+-- of what is given by these, what these uses and items need and nothing gives
+module _ (g : Parts Found) (us : List (Used × Found)) (es : List Item) (fu : UsesFound us) (fe : ItemsFound es) where
+  abbrev Ungiven : Used → Name → Type 0
+  Ungiven u n = IsImported (plain g.imports) n u → ⊥
+
+  abbrev SomeUngiven : Type 0
+  SomeUngiven = (u : Used) × (n : Name) × Needs (only_uses us) (plain es) u × (identifier_of u.interface ≡ Some n) × Ungiven u n
+
+  ungiven_decides : Decides (list_any (use_fails g true) (listed us es)) SomeUngiven
+  ungiven_decides = Decides-like (list_any (use_fails g true) (listed us es)) to back (any_decides (use_fails g true) (λ m. Ungiven m.by m.name × Unit {0}) (listed us es) one)
+    where
+      one : (m : Needed) → Among m (listed us es) → Decides (use_fails g true m) (Ungiven m.by m.name × Unit {0})
+      one m n =
+          Decides-and (not (is_given_by (value_at g.imports m.name) m.by)) (true || m.types true)
+          (Decides-not (is_given_by (value_at g.imports m.name) m.by) (imported_decides g.imports m.by m.name)) (λ e. tt, λ e. refl)
+
+      to : ((m : Needed) × Among m (listed us es) × (Ungiven m.by m.name × Unit {0})) → SomeUngiven
+      to (m, n, f) = let h = listed_needed us es fu fe m n in (m.by, m.name, h.needs, h.named, f.0)
+
+      back : SomeUngiven → (m : Needed) × Among m (listed us es) × (Ungiven m.by m.name × Unit {0})
+      back (u, n, w, e, f) =
+          let l = needed_listed us es fu fe u n w e in
+          (l.one, l.there, (subst (λ v. Ungiven v l.one.name) (sym l.by) (subst (Ungiven u) (sym l.called) f), tt))
+
 module _ (p : Parts Found) (fu : UsesFound p.uses) (fi : ItemsFound p.imports) (fx : ItemsFound p.exports) where
   abbrev items_of : List Item
   items_of = p.imports ++ p.exports
-
-  plain_both : (xs ys : List Item) → plain (xs ++ ys) ≡ plain xs ++ plain ys
-  plain_both [] ys = refl
-  plain_both (x ∷ xs) ys = ap (λ l. (x.0, x.1.0) ∷ l) (plain_both xs ys)
-
-  below_both : (xs ys : List Item) → below_items (xs ++ ys) ≡ below_items xs ++ below_items ys
-  below_both [] ys = refl
-  below_both (x ∷ xs) ys = ap (λ l. x.1.1.uses ++ l) (below_both xs ys) ∙ sym (append_assoc x.1.1.uses (below_items xs) (below_items ys))
 
   both_found : ItemsFound (p.imports ++ p.exports)
   both_found e m = elim (among_split e p.imports p.exports m) [
@@ -256,27 +301,6 @@ module _ (p : Parts Found) (fu : UsesFound p.uses) (fi : ItemsFound p.imports) (
 
   all_listed : all_needed p ≡ listed p.uses (p.imports ++ p.exports)
   all_listed = ap (λ l. flat_map needs_of_use p.uses ++ l) (sym (below_both p.imports p.exports))
-
-  -- what an import has
-  imported_decides : (u : Used) (n : Name) → Decides (is_given_by (value_at p.imports n) u) (IsImported (plain p.imports) n u)
-  imported_decides u n = go (value_at p.imports n) (plain_value p.imports n)
-    where
-      stands : (x y : Option Stated) → Decides (stands_as x y) ((z : Stated) → x ≡ Some z → (w : Stated) × (y ≡ Some w) × (tree z ≡ tree w))
-      stands None y = (λ e z q. absurd (none-some _ q), λ h. refl)
-      stands (Some x) None = (λ e. absurd (true≢false (sym e)), λ h. absurd (let r = h x refl in none-some _ r.1))
-      stands (Some x) (Some y) = (
-        λ q z r. (y, refl, ap tree (sym (same_Some _ _ r)) ∙ (trees_decide x y).0 q),
-        λ h. let w = h x refl in (trees_decide x y).1 (w.2 ∙ ap tree (sym (same_Some _ _ w.1))),
-      )
-
-      go : (o : Option (Stated × Found)) → value_at (plain p.imports) n ≡ option_map (λ x. x.0) o → Decides (is_given_by o u) (IsImported (plain p.imports) n u)
-      go None e = (λ q. absurd (true≢false (sym q)), λ h. absurd (none-some _ (sym e ∙ h.there)))
-      go (Some x) e =
-          let d = stands (item_in u.interface u) (given_in x.0 u) in (
-            λ q. record { interface = x.0; there = e; item = d.0 q },
-            λ h. let s : x.0 ≡ h.interface = same_Some _ _ (sym e ∙ h.there) in
-                d.1 (λ z r. let w = h.item z r in (w.0, ap (λ i. given_in i u) s ∙ w.1, w.2)),
-          )
 
   module _ (o : Bool) where
     -- a use that no import gives
@@ -292,7 +316,7 @@ module _ (p : Parts Found) (fu : UsesFound p.uses) (fi : ItemsFound p.imports) (
     use_decides : (m : Needed) → Among m (all_needed p) → Decides (use_fails p o m) (UseFails m.by m.name)
     use_decides m n =
         Decides-and (not (is_given_by (value_at p.imports m.name) m.by)) (o || m.types o)
-        (Decides-not (is_given_by (value_at p.imports m.name) m.by) (imported_decides m.by m.name))
+        (Decides-not (is_given_by (value_at p.imports m.name) m.by) (imported_decides p.imports m.by m.name))
         (Decides-or o (m.types o) (λ e. e, λ e. e) ((needed_is m n).types o))
 
     uses_decide : Decides (list_any (use_fails p o) (all_needed p)) SomeUseFails
@@ -352,6 +376,42 @@ module _ (p : Parts Found) (fu : UsesFound p.uses) (fi : ItemsFound p.imports) (
         back (not_added {u = u} n d e f k t) = inl (inr (u, n, moved_back u d, e, (λ g. f (subst (λ is. IsImported is n u) ei g), inr (k, t))))
         back (an_import {n = n} {x = x} m g c) = inr (inl (n, x, subst (Among (n, x)) (sym ei) m, λ k. g (subst (λ h. IsGiven h n x) held k), subst (λ h. CannotBeWritten o h n x) (sym held) c))
         back (an_export {n = n} {x = x} m c) = inr (inr (n, x, subst (Among (n, x)) (sym ex) m, subst (λ h. CannotBeWritten o h n x) (sym held) c))
+
+  -- ---- as an imported package
+
+  abbrev PackageNeeds : Type 0
+  PackageNeeds = SomeUngiven p p.uses p.imports fu fi ⊎ SomeUngiven (over_exports p) [] p.exports (λ u m. absurd m) fx
+
+  abbrev AsPackageFails : Type 0
+  AsPackageFails = ((some_unnamed (used_of p) ≡ true) ⊎ PackageNeeds) ⊎ (SomeFail true (world_holder p) (plain p.imports) ⊎ ExportFails true)
+
+  package_decides : (w : Stated) → used_of p ≡ uses_of w → plain p.imports ≡ imports_of w → plain p.exports ≡ exports_of w → Decides (package_fails p) (PackageFails w)
+  package_decides w eu ei ex =
+      Decides-like (package_fails p) to back
+      (Decides-or (some_unnamed (used_of p) || (list_any (use_fails p true) (listed p.uses p.imports) || list_any (use_fails (over_exports p) true) (listed [] p.exports))) _
+      (Decides-or (some_unnamed (used_of p)) _ (λ e. e, λ e. e)
+      (Decides-or (list_any (use_fails p true) (listed p.uses p.imports)) _ (ungiven_decides p p.uses p.imports fu fi) (ungiven_decides (over_exports p) [] p.exports (λ u m. absurd m) fx)))
+      (Decides-or (some_fails (world_holder p) true p.imports) _ (some_decide true (world_holder p) p.imports fi) (exports_decide true)))
+    where
+      held : world_holder p ≡ component_holder w
+      held = λ i. with_roots (holder (eu i) (ei i)) (map root_of (filter is_fresh (ex i)))
+
+      givers : plain (p.exports ++ p.imports) ≡ given_to_exports w
+      givers = plain_both p.exports p.imports ∙ (λ i. ex i ++ ei i)
+
+      to : AsPackageFails → PackageFails w
+      to (inl (inl e)) = unnamed_in_package (ap some_unnamed (sym eu) ∙ e)
+      to (inl (inr (inl (u, n, d, e, f)))) = not_imported_by n (subst (λ us. Needs us (imports_of w) u) eu (subst (λ is. Needs (used_of p) is u) ei d)) e (λ g. f (subst (λ is. IsImported is n u) (sym ei) g))
+      to (inl (inr (inr (u, n, d, e, f)))) = not_given_by n (subst (λ es. Needs [] es u) ex d) e (λ g. f (subst (λ is. IsImported is n u) (sym givers) g))
+      to (inr (inl (n, x, m, g, c))) = import_of_package (subst (Among (n, x)) ei m) (λ k. g (subst (λ h. IsGiven h n x) (sym held) k)) (subst (λ h. CannotBeWritten true h n x) held c)
+      to (inr (inr (n, x, m, c))) = export_of_package (subst (Among (n, x)) ex m) (subst (λ h. CannotBeWritten true h n x) held c)
+
+      back : PackageFails w → AsPackageFails
+      back (unnamed_in_package e) = inl (inl (ap some_unnamed eu ∙ e))
+      back (not_imported_by {u = u} n d e f) = inl (inr (inl (u, n, subst (λ us. Needs us (plain p.imports) u) (sym eu) (subst (λ is. Needs (uses_of w) is u) (sym ei) d), e, λ g. f (subst (λ is. IsImported is n u) ei g))))
+      back (not_given_by {u = u} n d e f) = inl (inr (inr (u, n, subst (λ es. Needs [] es u) (sym ex) d, e, λ g. f (subst (λ is. IsImported is n u) givers g))))
+      back (import_of_package {n = n} {x = x} m g c) = inr (inl (n, x, subst (Among (n, x)) (sym ei) m, λ k. g (subst (λ h. IsGiven h n x) held k), subst (λ h. CannotBeWritten true h n x) (sym held) c))
+      back (export_of_package {n = n} {x = x} m c) = inr (inr (n, x, subst (Among (n, x)) (sym ex) m, subst (λ h. CannotBeWritten true h n x) (sym held) c))
 
 -- ---- why an item cannot be written, by its kind
 
@@ -522,20 +582,29 @@ module _ (i : Option Name) (us : List (Name × Option Name)) (is es : List Name)
   abbrev world_parts : Parts Found
   world_parts = parts_at (world i us is es) (folded_row found_at ts)
 
+  uses_are : UsesFound world_parts.uses
+  uses_are = uses_found us (folded_row found_at ts) f
+
+  imports_are : ItemsFound world_parts.imports
+  imports_are = names_found is (drop (length us) (folded_row found_at ts)) (drop_found (length us) (folded_row found_at ts) f)
+
+  exports_are : ItemsFound world_parts.exports
+  exports_are = names_found es (drop (length us + length is) (folded_row found_at ts)) (drop_found (length us + length is) (folded_row found_at ts) f)
+
   world_found : (x : Stated) (k : Kind) → kind_of x ≡ k → has_items k ≡ false → ((o : Bool) (h : Holder) (n : Name) → Reason o h n k x ≡ ComponentFails o x)
       → used_of world_parts ≡ uses_of x → plain world_parts.imports ≡ imports_of x → plain world_parts.exports ≡ exports_of x → IsFound x (simple (λ n h outer. world_fails world_parts outer))
   world_found x k e q r eu ei ex =
       simply x (λ n h outer. world_fails world_parts outer) (ap has_items e ∙ q)
-      (λ o h n. by_reason o h n x k _ e (subst (Decides (world_fails world_parts o)) (sym (r o h n)) (component_decides world_parts fu fi fx o x eu ei ex)))
-    where
-      fu : UsesFound world_parts.uses
-      fu = uses_found us (folded_row found_at ts) f
+      (λ o h n. by_reason o h n x k _ e (subst (Decides (world_fails world_parts o)) (sym (r o h n)) (component_decides world_parts uses_are imports_are exports_are o x eu ei ex)))
 
-      fi : ItemsFound world_parts.imports
-      fi = names_found is (drop (length us) (folded_row found_at ts)) (drop_found (length us) (folded_row found_at ts) f)
+  package_found : Decides (package_fails world_parts) (PackageCannotBeWritten (node (world i us is es) ts))
+  package_found =
+      Decides-like _ (λ f. record { component = refl; fails = f }) (λ h. h.fails)
+      (package_decides world_parts uses_are imports_are exports_are (node (world i us is es) ts) (same_uses us (folded_row found_at ts) (only_places ts) (both_firsts ts))
+      (same_behind (length us) is (folded_row found_at ts) (only_places ts) (both_firsts ts)) (same_behind (length us + length is) es (folded_row found_at ts) (only_places ts) (both_firsts ts)))
 
-      fx : ItemsFound world_parts.exports
-      fx = names_found es (drop (length us + length is) (folded_row found_at ts)) (drop_found (length us + length is) (folded_row found_at ts) f)
+component_as : (x : Stated) (p : Parts Found) → IsFound x (simple (λ n h outer. world_fails p outer)) → IsFound x (found_component p)
+component_as x p h = record { test = h.test; types = h.types; only = h.only; all = h.all }
 
 -- ---- all labels
 
@@ -566,7 +635,7 @@ of_type (type_of s) ts f = value_type_found (type_of s) ts refl
 of_label : (s : Shape) (ts : Wholes Shape) → RowFound (folded_row found_at ts) → IsFound (node s ts) (found_at s (folded_row found_at ts))
 of_label (func ps a) ts f = func_found (func ps a) ts IsFunction refl refl (λ o h n. refl)
 of_label (interface i us es) ts f = interface_found i us es ts f (node (interface i us es) ts) IsInstance refl refl (λ o h n. refl) (same_uses us (folded_row found_at ts) (only_places ts) (both_firsts ts)) (same_behind (length us) es (folded_row found_at ts) (only_places ts) (both_firsts ts))
-of_label (world i us is es) ts f = world_found i us is es ts f (node (world i us is es) ts) IsComponent refl refl (λ o h n. refl) (same_uses us (folded_row found_at ts) (only_places ts) (both_firsts ts)) (same_behind (length us) is (folded_row found_at ts) (only_places ts) (both_firsts ts)) (same_behind (length us + length is) es (folded_row found_at ts) (only_places ts) (both_firsts ts))
+of_label (world i us is es) ts f = component_as (node (world i us is es) ts) (parts_at (world i us is es) (folded_row found_at ts)) (world_found i us is es ts f (node (world i us is es) ts) IsComponent refl refl (λ o h n. refl) (same_uses us (folded_row found_at ts) (only_places ts) (both_firsts ts)) (same_behind (length us) is (folded_row found_at ts) (only_places ts) (both_firsts ts)) (same_behind (length us + length is) es (folded_row found_at ts) (only_places ts) (both_firsts ts)))
 of_label (module_type m) ts f = module_found m ts
 of_label (type_of s) ts f = of_type s ts f
 of_label (resource r) ts f = resource_found r ts
@@ -599,3 +668,63 @@ mutual
 -- the test says yes exactly of what cannot be written
 pub written_decides : (outer : Bool) (h : Holder) (n : Name) (x : Stated) → Decides (unwritable x n h outer) (CannotBeWritten outer h n x)
 written_decides o h n x = (found_is x).test o h n
+
+-- ---- packages
+
+abbrev is_component : Kind → Bool
+is_component IsComponent = true
+is_component k = false
+
+no_package : (x : Stated) → is_component (kind_of x) ≡ false → Decides false (PackageCannotBeWritten x)
+no_package x e = (λ q. absurd (true≢false (sym q)), λ h. absurd (true≢false (sym (ap is_component h.component) ∙ e)))
+
+type_package : (s : Shape) (ts : Wholes Shape) → Decides (found_at (type_of s) (folded_row found_at ts)).as_package (PackageCannotBeWritten (node (type_of s) ts))
+type_package (func ps a) ts = no_package (node (type_of (func ps a)) ts) refl
+type_package (interface i us es) ts = no_package (node (type_of (interface i us es)) ts) refl
+type_package (world i us is es) ts = no_package (node (type_of (world i us is es)) ts) refl
+type_package (module_type m) ts = no_package (node (type_of (module_type m)) ts) refl
+type_package (primitive p) ts = no_package (node (type_of (primitive p)) ts) refl
+type_package tuple ts = no_package (node (type_of tuple) ts) refl
+type_package list ts = no_package (node (type_of list) ts) refl
+type_package (fixed_size_list n) ts = no_package (node (type_of (fixed_size_list n)) ts) refl
+type_package option ts = no_package (node (type_of option) ts) refl
+type_package result ts = no_package (node (type_of result) ts) refl
+type_package (variant ns) ts = no_package (node (type_of (variant ns)) ts) refl
+type_package (record_of ns) ts = no_package (node (type_of (record_of ns)) ts) refl
+type_package (flags ns) ts = no_package (node (type_of (flags ns)) ts) refl
+type_package (enum ns) ts = no_package (node (type_of (enum ns)) ts) refl
+type_package alias ts = no_package (node (type_of alias) ts) refl
+type_package stream ts = no_package (node (type_of stream) ts) refl
+type_package future ts = no_package (node (type_of future) ts) refl
+type_package (resource n) ts = no_package (node (type_of (resource n)) ts) refl
+type_package (resource_alias n) ts = no_package (node (type_of (resource_alias n)) ts) refl
+type_package (own_of s) ts = no_package (node (type_of (own_of s)) ts) refl
+type_package (borrow_of s) ts = no_package (node (type_of (borrow_of s)) ts) refl
+type_package (type_of s) ts = no_package (node (type_of (type_of s)) ts) refl
+
+label_package : (s : Shape) (ts : Wholes Shape) → Decides (found_at s (folded_row found_at ts)).as_package (PackageCannotBeWritten (node s ts))
+label_package (func ps a) ts = no_package (node (func ps a) ts) refl
+label_package (interface i us es) ts = no_package (node (interface i us es) ts) refl
+label_package (world i us is es) ts = package_found i us is es ts (row_is ts)
+label_package (module_type m) ts = no_package (node (module_type m) ts) refl
+label_package (type_of s) ts = type_package s ts
+label_package (primitive p) ts = no_package (node (primitive p) ts) refl
+label_package tuple ts = no_package (node tuple ts) refl
+label_package list ts = no_package (node list ts) refl
+label_package (fixed_size_list n) ts = no_package (node (fixed_size_list n) ts) refl
+label_package option ts = no_package (node option ts) refl
+label_package result ts = no_package (node result ts) refl
+label_package (variant ns) ts = no_package (node (variant ns) ts) refl
+label_package (record_of ns) ts = no_package (node (record_of ns) ts) refl
+label_package (flags ns) ts = no_package (node (flags ns) ts) refl
+label_package (enum ns) ts = no_package (node (enum ns) ts) refl
+label_package alias ts = no_package (node alias ts) refl
+label_package stream ts = no_package (node stream ts) refl
+label_package future ts = no_package (node future ts) refl
+label_package (resource n) ts = no_package (node (resource n) ts) refl
+label_package (resource_alias n) ts = no_package (node (resource_alias n) ts) refl
+label_package (own_of s) ts = no_package (node (own_of s) ts) refl
+label_package (borrow_of s) ts = no_package (node (borrow_of s) ts) refl
+
+pub package_decides_of : (n : Name) (x : Stated) → Decides (package_unwritable (n, x)) (PackageCannotBeWritten x)
+package_decides_of n (node s ts) = label_package s ts

@@ -11,7 +11,7 @@ use Rattle.wac_composition.specs.Merging.{kept}
 use Rattle.wac_composition.specs.OuterImports.{asked_in, outer_imports}
 use Rattle.wac_composition.specs.Writable.{holder, as_defined}
 use Rattle.wac_composition.specs.Circles.{written_inside, written_whole}
-use Rattle.wac_composition.specs.NotWritten.{CannotBeWritten}
+use Rattle.wac_composition.specs.NotWritten.{CannotBeWritten, PackageCannotBeWritten}
 use Rattle.wac_composition.specs.Conflicts.{Cause, ImplicitImport, ExplicitImport, ImportTypes, Unwritable, those_in, dependencies_of, whole_forms, outers_written, first_cause}
 
 module _ {A I : Type 0} (define : Bool) (c : Composition A I) where
@@ -46,7 +46,7 @@ module _ {A I : Type 0} (define : Bool) (c : Composition A I) where
         → CannotBeWritten false (holder [] (outer_imports (asks_of c))) d.name (as_defined d.item)
         → StandsAgainst (Unwritable d.name)
     imported_package : (n : Name) (x : Stated) → Among (n, x) (dependencies_of define c)
-        → CannotBeWritten true (holder [] []) n x → StandsAgainst (Unwritable n)
+        → PackageCannotBeWritten x → StandsAgainst (Unwritable n)
 
   -- the first cause stands, and where there is none no cause stands
   pub record FirstStands : Type 0 where

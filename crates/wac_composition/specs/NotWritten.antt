@@ -1,5 +1,5 @@
 -- When a type cannot be written. `Writable` has the test, and a law ties both.
-use Rattle.std.specs.Prelude.{◌≡◌, Bool, true, false, List, ◌++◌, map, Some, filter}
+use Rattle.std.specs.Prelude.{◌≡◌, Bool, true, false, List, [], ◌++◌, map, Some, filter}
 use Rattle.std.specs.Bool.{Decides}
 use Rattle.wac_types_base.specs.declared.core_types.ModuleType.{ModuleType}
 use Rattle.wac_types_base.specs.Entries.{Name, value_at}
@@ -8,7 +8,7 @@ use Rattle.wac_types_base.specs.Collection.{Shape, resource, resource_alias, mod
 use Rattle.wac_types_base.specs.Stated.{Stated, Kind, IsFunction, IsInstance, IsComponent, IsValue, IsResource, IsFunctionType, IsValueType, IsInterface, IsWorld, IsModuleType, Used, shape_of, places_of, kind_of, untyped, uses_of, imports_of, exports_of, identifier_of, root_name}
 use Rattle.wac_types_base.specs.Tree.{tree}
 use Rattle.wac_types_written.specs.Written.{is_type}
-use Rattle.wac_composition.specs.Writable.{Holder, writable_module, has_items, item_in, given_in, is_fresh, root_of, holder, with_roots, some_unnamed, unwritable}
+use Rattle.wac_composition.specs.Writable.{Holder, writable_module, has_items, item_in, given_in, is_fresh, root_of, holder, with_roots, some_unnamed, unwritable, package_unwritable}
 
 -- ---- what stands in a holder
 
@@ -124,7 +124,33 @@ mutual
     an_export : {w : Stated} {n : Name} {x : Stated} → Among (n, x) (exports_of w)
         → CannotBeWritten outer (component_holder w) n x → ComponentFails outer w
 
+-- ---- imported packages
+
+-- what gives the exports of a package their uses: its own exports, and its imports under other names
+abbrev pub given_to_exports : Stated → List (Name × Stated)
+given_to_exports w = exports_of w ++ imports_of w
+
+-- the component type of an imported package: its imports are over imports, its exports over exports where it has them
+pub data PackageFails (w : Stated) : Type 0 where
+  unnamed_in_package : some_unnamed (uses_of w) ≡ true → PackageFails w
+  not_imported_by : {u : Used} (n : Name) → Needs (uses_of w) (imports_of w) u → identifier_of u.interface ≡ Some n
+      → (IsImported (imports_of w) n u → ⊥) → PackageFails w
+  not_given_by : {u : Used} (n : Name) → Needs [] (exports_of w) u → identifier_of u.interface ≡ Some n
+      → (IsImported (given_to_exports w) n u → ⊥) → PackageFails w
+  import_of_package : {n : Name} {x : Stated} → Among (n, x) (imports_of w) → (IsGiven (component_holder w) n x → ⊥)
+      → CannotBeWritten true (component_holder w) n x → PackageFails w
+  export_of_package : {n : Name} {x : Stated} → Among (n, x) (exports_of w) → CannotBeWritten true (component_holder w) n x
+      → PackageFails w
+
+pub record PackageCannotBeWritten (x : Stated) : Type 0 where
+  pub component : kind_of x ≡ IsComponent
+  pub fails : PackageFails x
+
 -- The test says yes exactly of what cannot be written.
 abbrev pub Test_of_writing : Type 0
 Test_of_writing =
     (outer : Bool) (h : Holder) (n : Name) (x : Stated) → Decides (unwritable x n h outer) (CannotBeWritten outer h n x)
+
+-- And that of packages.
+abbrev pub Test_of_packages : Type 0
+Test_of_packages = (n : Name) (x : Stated) → Decides (package_unwritable (n, x)) (PackageCannotBeWritten x)

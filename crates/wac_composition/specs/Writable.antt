@@ -135,11 +135,13 @@ pub record Needed : Type 0 where
   pub by : Used
   pub types : Bool → Bool
 
--- what is found of each place: its test; the test of its type exports alone; the uses below it
+-- what is found of each place: its test; the test of its type exports alone; the uses below it; whether it fails as an imported
+-- package
 pub record Found : Type 0 where
   pub test : WritingTest
   pub types : Bool → Bool
   pub uses : List Needed
+  pub as_package : Bool
 
 -- some interface reached by uses has no identifier
 abbrev pub some_unnamed : List Used → Bool
@@ -206,19 +208,35 @@ world_fails p outer =
     some_unnamed (used_of p) || list_any (use_fails p outer) (all_needed p)
     || (some_fails (world_holder p) outer p.imports || list_any (λ e. e.1.1.test e.0 (world_holder p) outer) p.exports)
 
+-- what gives the exports of an imported package their uses: its own exports, and its imports under other names
+abbrev pub over_exports : Parts Found → Parts Found
+over_exports p = record p { imports = p.exports ++ p.imports }
+
+-- an imported package: its imports are over imports, its exports over exports where it has them
+abbrev pub package_fails : Parts Found → Bool
+package_fails p =
+    some_unnamed (used_of p)
+    || (list_any (use_fails p true) (flat_map needs_of_use p.uses ++ below_items p.imports)
+    || list_any (use_fails (over_exports p) true) (below_items p.exports))
+    || (some_fails (world_holder p) true p.imports || list_any (λ e. e.1.1.test e.0 (world_holder p) true) p.exports)
+
 abbrev pub any_value : Holder → List (Option (Stated × Found)) → Bool
 any_value h [] = false
 any_value h (None ∷ os) = any_value h os
 any_value h (Some x ∷ os) = value_fails h x.0 || any_value h os
 
 abbrev pub simple : WritingTest → Found
-simple t = record { test = t; types = λ outer. false; uses = [] }
+simple t = record { test = t; types = λ outer. false; uses = []; as_package = false }
+
+abbrev pub found_component : Parts Found → Found
+found_component p = record (simple (λ n h outer. world_fails p outer)) { as_package = package_fails p }
 
 abbrev pub found_interface : Parts Found → Found
 found_interface p = record {
   test = λ n h outer. interface_fails (used_of p) p.exports outer;
   types = interface_fails (used_of p) (type_items p.exports);
   uses = flat_map needs_of_use p.uses ++ below_items p.exports;
+  as_package = false;
 }
 
 abbrev pub found_at : Shape → List (Option (Stated × Found)) → Found
@@ -226,7 +244,7 @@ found_at (func ps a) os = simple (λ n h outer. any_value h os)
 found_at (type_of (func ps a)) os = simple (λ n h outer. any_value h os)
 found_at (interface i us es) os = found_interface (parts_at (interface i us es) os)
 found_at (type_of (interface i us es)) os = found_interface (parts_at (interface i us es) os)
-found_at (world i us is es) os = simple (λ n h outer. world_fails (parts_at (world i us is es) os) outer)
+found_at (world i us is es) os = found_component (parts_at (world i us is es) os)
 found_at (type_of (world i us is es)) os = simple (λ n h outer. world_fails (parts_at (world i us is es) os) outer)
 found_at (module_type m) os = simple (λ n h outer. not (writable_module m))
 -- a module type as a type item
@@ -261,7 +279,7 @@ definition_unwritable outers d = unwritable (as_defined d.1) d.0 (holder [] oute
 
 -- an imported package's world, under the dependency's name
 abbrev pub package_unwritable : Name × Stated → Bool
-package_unwritable p = unwritable p.1 p.0 (holder [] []) true
+package_unwritable p = (folded found_at p.1).as_package
 
 -- an alias of a value item
 abbrev pub is_value : Kind → Bool

@@ -30,7 +30,7 @@ ghost use Rattle.wac_composition.specs.Alike.{IsAlike, MeansAlike};
 ghost use Rattle.wac_composition.specs.Sound.{IsSound, IsWired};
 ghost use Rattle.wac_composition.specs.Worlds.{composed_world, used_world, source_of};
 ghost use Rattle.wac_types_written.specs.Written.{without_uses};
-ghost use Rattle.wac_composition.specs.NotWritten.{Test_of_writing};
+ghost use Rattle.wac_composition.specs.NotWritten.{Test_of_writing, Test_of_packages};
 ghost use Rattle.wac_composition.specs.Examples.{plain_func, named_instance, passing, older, newer, wider, using_types, types, one_instance, two_versions, clashing_versions, clashing_imports, one_identifier, used_interface, asked_twice, alike_names, nameless_resource, asked_value, twice_made, byte_list, defined_twice, lacks_used, given_another, given_renamed, values_in_circle, resource_in_circle, circle_inside};
 ghost use Rattle.wac_graph_bytes.specs.Wirings.{Tag, Definition};
 
@@ -48,9 +48,11 @@ pub fn tests_of_fitting()
     ensures trees { (t u : Tree) → fit t true u ≡ true → Fits t u }
 {}
 
-/// The test of what cannot be written says yes exactly of what cannot, in an outer import and elsewhere.
+/// The test of what cannot be written says yes exactly of what cannot, in an outer import and elsewhere, and as an imported
+/// package.
 pub fn test_of_writing()
-    ensures { Test_of_writing }
+    ensures items { Test_of_writing }
+    ensures packages { Test_of_packages }
 {}
 
 /// The tests of names say yes exactly of compatible ones, and of a name with a later one, as the maps of

@@ -10,8 +10,11 @@ use Rattle.wac_types_base.specs.Collection.{Stands}
 use Rattle.wac_types_base.specs.Stated.{stated_in, stated_of}
 use Rattle.wac_graph_core.specs.declared.ids.PackageId.{PackageId}
 use Rattle.wac_graph_core.specs.Graph.{Graph, package_of}
-use Rattle.wac_composition.specs.Writable.{holder, unwritable, package_unwritable}
-use Rattle.wac_composition.specs.Writable.{Holder as Held}
+use Rattle.std.specs.Bool.{Decides}
+use Rattle.wac_composition.specs.Writable.{package_unwritable}
+use Rattle.wac_composition.specs.NotWritten.{PackageCannotBeWritten}
+use Rattle.wac_composition.proofs.NotFound.{package_decides_of}
+use Rattle.wac_writable.proofs.ItemLaws.{both_decide}
 use Rattle.wac_composition.specs.Conflicts.{Cause, cause_at}
 use Rattle.wac_graph_asks.specs.declared.asks.Asked.{Asked}
 use Rattle.wac_graph_asks.specs.Asked.{IsWorldOf}
@@ -26,9 +29,9 @@ module _ (g : Graph) (c : Collection) (id : PackageId) (w : WorldId) (own : IsWo
   world_is : package_world g (package_of g id) ≡ stated_of c (ItemKind.Component w)
   world_is = ap (package_world g) own.is ∙ ap stated_in (sym own.copy.same)
 
-  module _ (b : Bool) (tells : Stands c (ItemKind.Component w) → (n : Name) (h : Held) → b ≡ unwritable (stated_of c (ItemKind.Component w)) n h true) where
+  module _ (b : Bool) (tells : Stands c (ItemKind.Component w) → Decides b (PackageCannotBeWritten (stated_of c (ItemKind.Component w)))) where
     tested : b ≡ package_unwritable (dependency_at g id)
-    tested = tells own.copy.stands (dependency_of g id) (holder [] []) ∙ ap (λ x. unwritable x (dependency_of g id) (holder [] []) true) (sym world_is)
+    tested = both_decide b (package_unwritable (dependency_at g id)) (subst (λ x. Decides b (PackageCannotBeWritten x)) (sym world_is) (tells own.copy.stands)) (package_decides_of (dependency_of g id) (package_world g (package_of g id)))
 
     package_is : (v : Bool) → b ≡ v → package_cause g id ≡ named_if v (dependency_of g id)
     package_is v e = ap (λ v. named_if v (dependency_of g id)) (sym tested ∙ e)

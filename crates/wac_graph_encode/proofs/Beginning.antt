@@ -2,9 +2,12 @@
 use Rattle.std.specs.Prelude.{slice_get}
 use Rattle.std.proofs.Common.{◌≡◌, ℕ, true, false, List, [], Some, Result, Ok, Err, OnOk, refl, sym, ap, subst, ◌∙◌}
 use Rattle.wac_types_base.specs.declared.ids.WorldId.{WorldId}
+use Rattle.wac_types_base.specs.declared.item.ItemKind.{ItemKind}
 use Rattle.wac_types_base.specs.Record.{Collection}
 use Rattle.wac_types_base.specs.Entries.{Name, names_of}
 use Rattle.wac_types_base.specs.Graph.{Among}
+use Rattle.wac_types_base.proofs.Looked.{among-get}
+use Rattle.wac_types_base.proofs.Loops.{map-get}
 use Rattle.wac_graph_bytes.specs.declared.value.Sort.{Sort}
 use Rattle.wac_graph_bytes.specs.Typing.{Worlds, Inside, Meaning, space}
 use Rattle.wac_graph_bytes.specs.Meaning.{State}
@@ -13,13 +16,16 @@ use Rattle.wac_graph_core.specs.Graph.{Graph}
 use Rattle.wac_graph_scopes.specs.declared.imports.Called.{Called}
 use Rattle.wac_graph_scopes.specs.declared.imports.ImportScope.{ImportScope}
 use Rattle.wac_graph_scopes.specs.Imports.{WritesWorld}
+use Rattle.wac_graph_scopes.specs.Parts.{imports_of}
 use Rattle.wac_graph_scopes.specs.Roots.{at_root}
 use Rattle.wac_graph_encode.specs.declared.root.Root.{Root}
 use Rattle.wac_graph_encode.specs.declared.root.Writing.{Writing}
-use Rattle.wac_graph_encode.specs.Standing.{IsPackageAt}
+use Rattle.wac_graph_asks.specs.Outers.{IsOuters}
+use Rattle.wac_graph_encode.specs.Standing.{IsPackageAt, spelled}
+use Rattle.wac_graph_encode.specs.Ready.{AddsNames, ArePlacedAt}
 use Rattle.wac_graph_encode.specs.Rooting.{IsReadTo}
 use Rattle.wac_graph_encode.specs.Nesting.{NestsAll, NestsBehind}
-use Rattle.wac_graph_encode.specs.Beginning.{AreTold, IsBare, IsBegunWith, IsRooted, Begins}
+use Rattle.wac_graph_encode.specs.Beginning.{AreTold, IsBare, IsBegunWith, IsRooted, Begins, HoldsTaken}
 use Rattle.wac_graph_encode.specs.Importing.{ImportsBefore, with_packages}
 use Rattle.wac_graph_encode.specs.Writing.{IsBegun}
 use Rattle.wac_graph_encode.proofs.StandingSteps.{stands_on, outer_on}
@@ -89,3 +95,28 @@ begins_imported x scope old new (Ok u) define b = λ w world imported called h b
     subst (λ d. IsBegun d w (with_packages d g c ps i.imports) called g new) (sym define)
     (begun_imported g c ps worlds w (subst (λ d. AreTold d g w (names_of ps)) define told) called i (nothing_named i.exports h.writing.exports) scope h.writing.stands old new bare.0 bare.1 rooted b)
 begins_imported x scope old new (Err e) define b = λ w world imported called h bare worlds told rooted. tt
+
+-- ---- what is held
+
+pub holds_nested : (x : Writing) (scope : ImportScope) (old new : Root) → NestsBehind x.graph.now (names_of x.worlds.now.entries) scope old new → HoldsTaken x scope old new
+holds_nested x scope old new b = record {
+  imports = ap (λ v. v.items) b.nests.others.imports ∙ b.takes.imports;
+  nodes = b.nests.others.nodes ∙ b.takes.nodes;
+  packages = subst (λ ps. AddsNames (names_of x.worlds.now.entries) (names_of ps.entries) (names_of new.packages.entries)) b.takes.packages b.nests.held;
+}
+
+pub holds_imported : (x : Writing) (scope : ImportScope) (old new : Root) → ImportsBefore x.graph.now x.all.types.now x.worlds.now.entries scope old new → HoldsTaken x scope old new
+holds_imported x scope old new b = record {
+  imports = b.takes.imports ∙ ap (λ v. v.items) b.places;
+  nodes = b.takes.nodes ∙ b.nodes;
+  packages = subst (λ ps. AddsNames (names_of x.worlds.now.entries) (names_of old.packages.entries) (names_of ps.entries)) (sym b.takes.packages) b.held;
+}
+
+-- of all imports something is written, so each that is called has its place
+pub calls_placed : (w : Worlds) (g : Graph) (c : Collection) (world : WorldId) (called : List Called) → IsOuters g c world called → (scope : ImportScope) (imported : List Name) → WritesWorld w c [] world scope imported []
+    → ((n : Name) → Among n (names_of (imports_of c world)) → Among n imported) → ArePlacedAt scope.places.items called
+calls_placed w g c world called is scope imported h all one m =
+    let k = is.called_there one m in
+    let n : Name = spelled g one.name in
+    let at : slice_get (names_of (imports_of c world)) one.at ≡ Some n = map-get (λ (x : Name × ItemKind). x.0) (imports_of c world) one.at (n, k.0) k.1 in
+    h.have one.at n at (all n (among-get (names_of (imports_of c world)) one.at n at))

@@ -83,7 +83,7 @@ module _ (define : Bool) (g : Graph) (sound : IsGraph g) (asks : AsksImported g)
 
   exported : (e : Name × Source ℕ) → Among e listed.exports → IsApart listed e.1
   exported e m =
-      let a = among_zip (IsExported g w define order) g.exports listed.exports done.exports e m in
+      let a = among_zip (IsExported g w define order) done.listing listed.exports done.exports e m in
       subst (IsApart listed) (sym a.1.is) (apart a.1.source (asks.nodes a.0.1 a.1.source a.1.denotes))
 
   -- entries that are these state the wiring
@@ -95,7 +95,7 @@ module _ (define : Bool) (g : Graph) (sound : IsGraph g) (asks : AsksImported g)
     stated = subst (λ (ss : List (Meaning × Tree)). AllByRecursion (λ s. item_tree w s.0 ≡ Some s.1) ss) (sym done.stated) tt;
     imports = subst (λ (xs : List (Name × Tree)). AreDistinct (names_of xs)) (sym done.imports) once;
     instances = all_of (IsMade listed) listed.instances made;
-    exports = subst AreDistinct (sym (zip_names (IsExported g w define order) (λ x y z. z.name) g.exports listed.exports done.exports)) sound.exported.distinct;
+    exports = subst AreDistinct (sym (zip_names (IsExported g w define order) (λ x y z. z.name) done.listing listed.exports done.exports)) done.rearranged.distinct;
     exports_apart = all_of (λ e. IsApart listed e.1) listed.exports exported;
   }
 

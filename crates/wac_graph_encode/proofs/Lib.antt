@@ -1,5 +1,6 @@
 pub mod Entries
 pub mod Counted
+pub mod Depths
 pub mod Finishing
 pub mod StandingTrees
 pub mod StandingNumbers
@@ -9,7 +10,9 @@ pub mod StandingInstances
 pub mod Sources
 pub mod StandingWirings
 pub mod WritingLaws
+pub mod Readying
 pub mod WritingSteps
+pub mod Rearranging
 pub mod StandingExports
 pub mod Rooting
 pub mod Nesting
@@ -26,6 +29,7 @@ pub mod Beginning
 pub mod Nested
 pub mod Imported
 pub mod Importable
+pub mod Provided
 pub mod Preparing
 pub mod Refusing
 pub mod Circling

@@ -25,6 +25,10 @@ use Rattle.wac_graph_encode.specs.Standing.{counted, IsPackageAt}
 use Rattle.wac_graph_encode.specs.Nesting.{bytes_in, bytes_of, numbered, IsCounted, IsTold, NestsAll, NestsOne, NumbersAll}
 use Rattle.wac_graph_encode.proofs.Entries.{same_package}
 use Rattle.wac_graph_encode.proofs.Counted.{count_most, few_entries}
+use Rattle.wac_graph_encode.specs.Ready.{AddsNames}
+use Rattle.wac_graph_encode.proofs.Readying.{names_inserted}
+use Rattle.wac_types_base.specs.Entries.{names_of}
+use Rattle.wac_types_fit.proofs.Items.{Among-last}
 
 -- ---- one more package
 
@@ -44,6 +48,7 @@ pub nests_none : (g : Graph) (r : Root) → NestsAll g [] r r
 nests_none g r = record {
   entries = sym (append-nil (map view r.entries.items));
   numbers = λ p. record { counts = λ s. if_none (same_sort s sort.Component) (counted r.counts s); packages = refl };
+  held = λ n m. elim m [ inl there ↦ there | inr none ↦ absurd none ];
   others = record { imports = refl; nodes = refl };
 }
 
@@ -72,9 +77,16 @@ nests_more g ids id old mid new h o =
           ∙ ap (λ (es : List Entry). es ++ nest id ∷ []) h.entries ∙ append_assoc (map view old.entries.items) (map nest ids) (nest id ∷ [])
           ∙ ap (λ (es : List Entry). map view old.entries.items ++ es) (sym (map-append nest ids (id ∷ [])));
       numbers = λ p. numbered_more g ids id old mid new o (h.numbers p) (low p (h.numbers p) grown);
+      held = λ n m. elim m [
+        | inl there ↦ one n (inl (h.held n (inl there)))
+        | inr k ↦ elim (Among-last ids id n k) [ inl a ↦ one n (inl (h.held n (inr a))) | inr e ↦ one n (inr (inl e)) ]
+      ];
       others = record { imports = o.others.imports ∙ h.others.imports; nodes = o.others.nodes ∙ h.others.nodes };
     }
   where
+    one : AddsNames (id ∷ []) (names_of mid.packages.entries) (names_of new.packages.entries)
+    one = names_inserted package_id.eq-value.it same_package mid.packages.entries new.packages.entries id (counted mid.counts sort.Component) o.packages
+
     low : IsCounted old → NumbersAll ids old mid → length mid.entries.items ≡ length old.entries.items + length ids → counted mid.counts sort.Component < 18446744073709551615
     low p n grown =
         let at : counted mid.counts sort.Component ≡ counted old.counts sort.Component + length ids = n.counts sort.Component in

@@ -82,7 +82,7 @@ zip_back R (x ∷ xs) (z ∷ ys) y h (inr m) = let r = zip_back R xs ys y h.1 m 
 
 module _ (g : Graph) (a : Asked) (o : Outers) (h : IsPrepared g a o) where
   -- each node that is defined has its definition
-  all_defined : (d : Collection) (ys : List Definition) → AreFormed g.types d a.definitions.items ys → AreAllDefined g ys
+  pub all_defined : (d : Collection) (ys : List Definition) → AreFormed g.types d a.definitions.items ys → AreAllDefined g ys
   all_defined d ys formed k x there role =
       let placed : Placed ℕ = record { by = k; name = first_export g.exports k; item = item_of g x } in
       let made : Among placed (composition_of g).definitions = among_passing (λ e. definition_by g e.0 e.1 e.1.role) (nodes_of g) (k, x) placed (node_among g k x there) (ap (definition_by g k x) role) in
@@ -117,7 +117,7 @@ module _ (g : Graph) (a : Asked) (o : Outers) (h : IsPrepared g a o) where
       worlds : AreWorldsOf g new.types new.packages.entries
       worlds id w m = world_kept g a.types new.types grows id w (h.worlds id w (subst (λ ps. Among (id, w) ps.entries) packages m))
 
-      there : IsThere g new o definitions.items
+      pub there : IsThere g new o definitions.items
       there = (outers_stay _ a.types new.types h.acyclic grows o.world o.called.items h.outers, worlds, to_write new.types definitions.items formed)
 
       module _ (bytes : Vec ℕ Global) (means : MeansAsked {E = BytesError} g new o definitions.items options (Ok bytes)) (nests : NestsSo {E = BytesError} options.define_components g ids (Ok bytes)) where

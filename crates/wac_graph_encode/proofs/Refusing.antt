@@ -14,16 +14,24 @@ use Rattle.wac_graph_causes.specs.declared.errors.Unwritten.{Unwritten}
 use Rattle.wac_graph_causes.specs.Refusals.{outer_refusal, unwritten_refusal}
 use Rattle.wac_graph_causes.specs.Implicit.{implicit_cause, IsImplicit}
 use Rattle.wac_graph_causes.specs.Alike.{IsAlike}
-use Rattle.wac_graph_causes.specs.Unwritable.{TellsUnwritable, TellsUnwritten, unwritten_cause}
+use Rattle.wac_graph_causes.specs.Unwritable.{TellsUnwritable, TellsUnwritten, alias_cause, unwritten_cause}
 use Rattle.wac_graph_encode.specs.declared.fault.BytesError.{BytesError}
 use Rattle.wac_graph_encode.specs.declared.options.EncodeOptions.{EncodeOptions}
 use Rattle.wac_graph_encode.specs.Faults.{bytes_refusal}
 use Rattle.wac_graph_encode.specs.Finished.{IfOfSize}
-use Rattle.wac_graph_encode.specs.Refused.{cause_in, HasLargeProcessor, HasNoneAlike, HasNoneClashing, HasNoneFound, IsFree, IsPastSize, IsRefusedFor, waiting_cause}
+use Rattle.wac_graph_encode.specs.Refused.{cause_in, HasLargeProcessor, HasNoneAlike, HasNoneClashing, HasNoneFound, HasNoneUnwritten, IsFree, IsPastSize, IsRefusedFor, waiting_cause}
 
 pub if_of_size : {P Q : Type 0} (f : BytesError) → (P → Q) → IfOfSize P f → IfOfSize Q f
 if_of_size BytesError.TooLarge more h = more h
 if_of_size BytesError.Memory more h = tt
+
+first_none : {X : Type 0} (o p : Option X) → option_or o p ≡ None → o ≡ None
+first_none None p e = refl
+first_none (Some x) p e = absurd (cc e)
+
+-- where each type can be written, no alias is a value
+pub no_alias : (options : EncodeOptions) (g : Graph) → HasNoneUnwritten options g → alias_cause g ≡ None
+no_alias options g none = first_none (alias_cause g) _ none
 
 module _ (options : EncodeOptions) (g : Graph) where
   abbrev conflicts : Option (Cause ℕ)

@@ -190,10 +190,6 @@ module _ (g : Graph) (sound : IsGraph g) (w : Worlds) (c : Collection) (world : 
   stood : (k : ℕ) (p : SortIndex) → Among (k, p) nodes → StandsAt g w (at_root defines.goes.writing.inside) [] k p
   stood k p m = stands_extended g sound w holds.written.goes.writing.inside defines.goes.writing.inside [] k p defines.on.extends (holds.stand k p m)
 
-  pub still_held : HoldsDefinitions g w c world i imported new after nodes
-  unfolding on
-  still_held = record { written = on; knows = defines.knows; stand = stood }
-
   pub one_held : (index : ℕ) → d ≡ desc.Equal index → HoldsDefinitions g w c world i imported new after (insert_entry node_id.eq-value.it nodes x.node (record { sort = sort.Ty; index = index }))
   unfolding on
   one_held index is = record {

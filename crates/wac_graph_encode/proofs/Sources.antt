@@ -74,7 +74,7 @@ module _ (g : Graph) (sound : IsGraph g) (finite_types : IsAcyclic g.types) (c :
   denoted_asks k s (wired.aliased {s = t} i n e d) = asks_project (λ m. IsSome (asked_trees g m)) t n (denoted_asks i t d)
 
   -- what is not passed is asked
-  filled_there : (k : ℕ) (p : Packaged) (n : Name) (item : ItemKind) → instantiated g k ≡ Some p → item_import g.types p.ty n ≡ Some item → ((a : ℕ) → HasArgument g.edges k n a → ⊥)
+  pub filled_there : (k : ℕ) (p : Packaged) (n : Name) (item : ItemKind) → instantiated g k ≡ Some p → item_import g.types p.ty n ≡ Some item → ((a : ℕ) → HasArgument g.edges k n a → ⊥)
       → Among (record { asking = ToFill; by = k; name = n; item = stated_of g.types item }) (asks_of (composition_of g))
   filled_there k p n item made import none =
       let m = made_of g sound finite_types k p in

@@ -23,7 +23,7 @@ use Rattle.wac_graph_scopes.specs.declared.imports.SortIndex.{SortIndex}
 use Rattle.wac_graph_encode.specs.declared.root.Counts.{Counts}
 use Rattle.wac_graph_asks.specs.Wirings.{written_tree}
 use Rattle.wac_graph_encode.specs.Standing.{by_number, spelled, IsExported, IsWritten, IsFinished}
-use Rattle.wac_graph_encode.specs.Writing.{IsExportOf, AddsExports, AllAreWritten}
+use Rattle.wac_graph_encode.specs.Writing.{IsExportOf, AddsInOrder, AllAreWritten}
 use Rattle.wac_graph_encode.proofs.WritingLaws.{names_among}
 
 steps_more : (w : Worlds) (st : State) (xs ys : List Entry) → steps w st (xs ++ ys) ≡ (steps w st xs >>= λ m. steps w m ys)
@@ -93,9 +93,10 @@ module _ (g : Graph) (is : IsGraph g) (worlds : Worlds) (define : Bool) (asked :
           made None q t = absurd (cc (subst (λ (o : Option PackageId). IsSome (package_if g o)) q t))
           made (Some id) q t = (is.nodes k x e).only id q
 
-  pub exports_finished : (new : List CodeEntry) → AllAreWritten g nodes → AddsExports nodes g.exports es new → IsFinished g worlds define asked new
-  exports_finished new all x =
-      let a = along g.exports x.entries h.state (λ s i m e. e) x.are in
+  pub exports_finished : (new : List CodeEntry) → AllAreWritten g nodes → AddsInOrder nodes g.exports es new → IsFinished g worlds define asked new
+  exports_finished new all o =
+      let x = o.adds in
+      let a = along o.listing x.entries h.state (λ s i m e. e) x.are in
       record {
         state = a.last;
         reads =
@@ -108,5 +109,7 @@ module _ (g : Graph) (is : IsGraph g) (worlds : Worlds) (define : Bool) (asked :
         once = h.once;
         all = all_listed all;
         instances = subst (AllZip _ h.order) (sym a.instances) h.instances;
-        exports = subst (AllZip (IsExported g worlds define h.order) g.exports) (sym (a.exports ∙ ap (λ (ys : List (Name × Source ℕ)). ys ++ a.exported) h.exports)) a.are;
+        listing = o.listing;
+        rearranged = o.rearranged;
+        exports = subst (AllZip (IsExported g worlds define h.order) o.listing) (sym (a.exports ∙ ap (λ (ys : List (Name × Source ℕ)). ys ++ a.exported) h.exports)) a.are;
       }

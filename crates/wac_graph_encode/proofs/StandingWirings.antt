@@ -192,7 +192,7 @@ module _ (define : Bool) (g : Graph) (is : IsGraph g) (worlds : Worlds) (asked :
           (a.0, w.instance, a.1, w.there, number_of h.order h.once j a.0 a.1)
 
   exports_same : (n : Name) → by_number h.order (V.exports n) ≡ read.exports n
-  exports_same n = go (value_at g.exports n) refl (value_at listed.exports n) refl (exported_at g worlds define h.order g.exports listed.exports h.exports n)
+  exports_same n = go (value_at g.exports n) refl (value_at listed.exports n) refl (subst (λ (o : Option ℕ). ExportIs g h.order o (value_at listed.exports n)) (h.rearranged.kept n) (exported_at g worlds define h.order h.listing listed.exports h.exports n))
     where
       go : (o : Option ℕ) → value_at g.exports n ≡ o → (p : Option (Source ℕ)) → value_at listed.exports n ≡ p → ExportIs g h.order o p → by_number h.order (V.exports n) ≡ read.exports n
       go None q p r a = ap (by_number h.order) (v.no_export n q) ∙ ap (λ (s : Option (Source ℕ)). elim s [ None ↦ Absent | Some t ↦ t ]) (sym (r ∙ a))

@@ -48,11 +48,6 @@ module _ (g : Graph) (k : ℕ) (bound : List (Name × ℕ)) (are : AreArguments 
       zip_map (λ n a. (a.0 ≡ n) × GivesUnder s bound n (record { sort = a.1; index = a.2 })) (λ n a. (a.0 ≡ n) × IsGivenAt g s.outers.now s.nodes.now.entries k n (record { sort = a.1; index = a.2 }))
       (λ n a x. (x.0, given_at n (record { sort = a.1; index = a.2 }) x.1)) ns as_ z
 
--- what is found of a node that is bound
-pub by_found : (s : Standing) (bound : List (Name × ℕ)) (n : Name) (a : ℕ) (o : Option SortIndex) → value_at bound n ≡ Some a → o ≡ lookup (node.eq-value.it a) s.nodes.now.entries → IfSome o (GivesUnder s bound n)
-by_found s bound n a None v e = tt
-by_found s bound n a (Some p) v e = by_node a v (found_among node.eq-value.it same_node s.nodes.now.entries a p (sym e))
-
 -- what stands among the values stands under a name
 pub value_named : (xs : List (Name × ℕ)) → AreDistinct (names_of xs) → (v : ℕ) → Among v (values_of xs) → (n : Name) × (value_at xs n ≡ Some v)
 value_named [] d v m = absurd m
@@ -135,26 +130,6 @@ given_next s bound xs i n k old new at adds are =
     subst (λ ns. AllZip R ns (arguments_view new)) (sym names) (subst (AllZip R (names_of (take i xs) ++ n ∷ [])) (sym adds.added)
     (zip_more R (names_of (take i xs)) (arguments_view old) n one are (refl, adds.given)))
 
--- so many of the exports are written
-pub record Exported (nodes : List (ℕ × SortIndex)) (xs : List (Name × ℕ)) (i : ℕ) (old new : List CodeEntry) : Type 0 where
-  pub entries : List CodeEntry
-  pub added : new ≡ old ++ entries
-  pub are : AllZip (IsExportOf nodes) (take i xs) entries
-
-pub exported_none : (nodes : List (ℕ × SortIndex)) (xs : List (Name × ℕ)) (old : List CodeEntry) → Exported nodes xs 0 old old
-exported_none nodes [] old = record { entries = []; added = sym (append-nil old); are = tt }
-exported_none nodes (x ∷ xs) old = record { entries = []; added = sym (append-nil old); are = tt }
-
-pub exported_next : (nodes : List (ℕ × SortIndex)) (xs : List (Name × ℕ)) (i : ℕ) (x : Name × ℕ) (old mid new : List CodeEntry) → slice_get xs i ≡ Some x → Exported nodes xs i old mid → AddsExport nodes x mid new → Exported nodes xs (i + 1) old new
-exported_next nodes xs i x old mid new at before one = record {
-  entries = before.entries ++ one.entry ∷ [];
-  added = one.added ∙ ap (λ (es : List CodeEntry). es ++ one.entry ∷ []) before.added ∙ append_assoc old before.entries (one.entry ∷ []);
-  are = subst (λ ys. AllZip (IsExportOf nodes) ys (before.entries ++ one.entry ∷ [])) (sym (take-one_more xs i x at)) (zip_more (IsExportOf nodes) (take i xs) before.entries x one.entry before.are one.is);
-}
-
-pub exported_all : (nodes : List (ℕ × SortIndex)) (xs : List (Name × ℕ)) (i : ℕ) (old new : List CodeEntry) → length xs ≤ i → Exported nodes xs i old new → AddsExports nodes xs old new
-exported_all nodes xs i old new h x = record { entries = x.entries; added = x.added; are = subst (λ ys. AllZip (IsExportOf nodes) ys x.entries) (take-all xs i h) x.are }
-
 -- the export of what is found
 pub export_of_found : (nodes : List (ℕ × SortIndex)) (n : Name) (k : ℕ) (p : SortIndex) (old new : List CodeEntry) → lookup (node.eq-value.it k) nodes ≡ Some p → AddsEntry old new (exported_as n p) → AddsExport nodes (n, k) old new
 export_of_found nodes n k p old new e a = record { entry = a.entry; added = a.added; is = record { place = p; stands = found_among node.eq-value.it same_node nodes k p e; is = a.is } }
@@ -213,9 +188,10 @@ pub record WroteUpTo (ids rest : List ℕ) (old w : Wired) : Type 0 where
   pub writes : (define : Bool) (worlds : Worlds) (asked : List (Name × Tree)) → WrittenSo define worlds asked old → WrittenSo define worlds asked w
   pub keeps : KeepsNodes old w
   pub done : (k : ℕ) → Among k ids → Among k rest ⊎ Among k (names_of (noted w))
+  pub within : (k : ℕ) → Among k rest → Among k ids
 
 pub wrote_none : (ids rest : List ℕ) (w : Wired) → rest ≡ ids → WroteUpTo ids rest w w
-wrote_none ids rest w is = record { writes = λ define worlds asked h. h; keeps = keeps_refl w; done = λ k m. inl (subst (Among k) (sym is) m) }
+wrote_none ids rest w is = record { writes = λ define worlds asked h. h; keeps = keeps_refl w; done = λ k m. inl (subst (Among k) (sym is) m); within = λ k m. subst (Among k) is m }
 
 pub wrote_more : (ids rest left : List ℕ) (node : ℕ) (old mid new : Wired) → WroteUpTo ids rest old mid → rest ≡ node ∷ left → ((define : Bool) (worlds : Worlds) (asked : List (Name × Tree)) → WrittenSo define worlds asked mid → WrittenSo define worlds asked new) → KeepsNodes mid new → Among node (names_of (noted new))
     → WroteUpTo ids left old new
@@ -226,6 +202,7 @@ wrote_more ids rest left node old mid new before is writes keeps stands = record
     | inl waits ↦ elim (subst (Among k) is waits) [ inl e ↦ inr (subst (λ j. Among j (names_of (noted new))) (sym e) stands) | inr later ↦ inl later ]
     | inr there ↦ let p = names_among (noted mid) k there in inr (name-among (noted new) k p.0 (keeps.kept k p.0 p.1))
   ];
+  within = λ k m. before.within k (subst (Among k) (sym is) (inr m));
 }
 
 pub wrote_all : (rest : List ℕ) (old w : Wired) → WroteUpTo (finite.keys old.graph.now.nodes) rest old w → rest ≡ [] → AllAreWritten w.graph.now (noted w)

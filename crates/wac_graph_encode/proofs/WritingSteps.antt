@@ -103,11 +103,10 @@ module _ (w : Wired) (s : Standing) (nodes : s.nodes.now ≡ w.root.nodes) (oute
             (all_given w.graph.now k bound are s (names_of (imports_of types world)) as_ given))),
       )
 
-  pub passes_if : {E : Type 0} (r : Result (Option (Vec NamedIndex Global)) E) → AreDistinct (names_of (imports_of types world)) → IfOk r (λ o. IfSome o (λ v. AreGivenUnder s bound (names_of (imports_of types world)) (arguments_view v.items)))
-      → IfOk r (λ o. IfSome o (λ v. PassesAll w id bound (arguments_view v.items)))
+  pub passes_if : {E : Type 0} (r : Result (Vec NamedIndex Global) E) → AreDistinct (names_of (imports_of types world)) → IfOk r (λ v. AreGivenUnder s bound (names_of (imports_of types world)) (arguments_view v.items))
+      → IfOk r (λ v. PassesAll w id bound (arguments_view v.items))
   passes_if (Err e) once x = tt
-  passes_if (Ok None) once x = tt
-  passes_if (Ok (Some v)) once x = passes_all (arguments_view v.items) once x
+  passes_if (Ok v) once x = passes_all (arguments_view v.items) once x
 
 -- ---- outer imports
 

@@ -23,6 +23,8 @@ use Rattle.wac_graph_encode.specs.Encoding.{nested_at, bytes_of}
 use Rattle.wac_graph_encode.specs.Nesting.{IsTold}
 use Rattle.wac_graph_encode.specs.Importing.{AreWorldsOf, with_packages}
 use Rattle.wac_graph_encode.specs.Writing.{IsBegun}
+use Rattle.wac_graph_encode.specs.Ready.{AddsNames, ArePlacedAt}
+use Rattle.wac_graph_asks.specs.declared.asks.Definition.{Definition}
 
 abbrev pub AreTold : (define : Bool) → Graph → Worlds → List PackageId → Type 0
 AreTold define g w ids = (id : PackageId) → Among id ids → IsTold define g w id
@@ -68,6 +70,18 @@ pub record IsToBegin (x : Writing) : Type 0 where
   pub outers : IsOuters x.graph.now x.all.types.now x.all.world x.all.called.now
   pub worlds : AreWorldsOf x.graph.now x.all.types.now x.worlds.now.entries
   pub definitions : AreToWrite x.graph.now x.all.types.now x.definitions.now
+
+-- what is written of the imports is taken to the root, where the nodes are left and the packages have their indexes
+pub record HoldsTaken (x : Writing) (scope : ImportScope) (old new : Root) : Type 0 where
+  pub imports : new.imports.items ≡ scope.places.items
+  pub nodes : new.nodes ≡ old.nodes
+  pub packages : AddsNames (names_of x.worlds.now.entries) (names_of old.packages.entries) (names_of new.packages.entries)
+
+-- all outer imports, packages and definitions that are to be written stand at the root
+pub record HoldsAll (x : Writing) (root : Root) : Type 0 where
+  pub placed : ArePlacedAt root.imports.items x.all.called.now
+  pub packages : (id : PackageId) → Among id (names_of x.worlds.now.entries) → Among id (names_of root.packages.entries)
+  pub definitions : (d : Definition) → Among d x.definitions.now → Among d.node (names_of root.nodes.entries)
 
 -- what is nested: the packages, or nothing
 abbrev pub nested_bytes : (define : Bool) → Graph → List PackageId → List (List ℕ)

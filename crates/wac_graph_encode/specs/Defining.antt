@@ -1,9 +1,9 @@
 -- Definitions that are written at the root, each as a type of its own that stands for its node.
-use Rattle.std.specs.Prelude.{◌≡◌, ℕ, List, [], ◌∷◌, Some, slice_get, Result, OnOk, IfOk}
+use Rattle.std.specs.Prelude.{◌≡◌, ℕ, List, [], ◌∷◌, map, Some, slice_get, Result, OnOk, IfOk}
 use Rattle.wac_types_base.specs.declared.ids.WorldId.{WorldId}
 use Rattle.wac_types_base.specs.declared.item.ItemKind.{ItemKind}
 use Rattle.wac_types_base.specs.Record.{Collection}
-use Rattle.wac_types_base.specs.Entries.{Name}
+use Rattle.wac_types_base.specs.Entries.{Name, names_of}
 use Rattle.wac_types_base.specs.Graph.{Among}
 use Rattle.wac_types_base.specs.Stated.{stated_of}
 use Rattle.wac_types_base.specs.Tree.{Tree}
@@ -24,6 +24,7 @@ use Rattle.wac_graph_asks.specs.Wirings.{written_tree}
 use Rattle.wac_graph_encode.specs.declared.root.Defined.{Defined}
 use Rattle.wac_graph_encode.specs.Standing.{StandsAt}
 use Rattle.wac_graph_encode.specs.Formed.{HasForm}
+use Rattle.wac_graph_encode.specs.Ready.{AddsNames}
 
 -- the node that is defined
 pub record IsNodeOf (g : Graph) (x : Definition) : Type 0 where
@@ -71,19 +72,24 @@ WritesDefinition g a x old before new after r = IsToWrite g a.types.now x
 abbrev pub HoldsDefined : Graph → Worlds → Importing → Inside → List Name → ImportScope → Defined → Type 0
 HoldsDefined g w a i imported s d = HoldsDefinitions g w a.types.now a.world i imported s d.known d.nodes.entries
 
+-- the nodes that stood stand, and with them those of the definitions
+abbrev pub NotesAll : List Definition → (old new : List (ℕ × SortIndex)) → Type 0
+NotesAll xs old new = AddsNames (map (λ x. x.node) xs) (names_of old) (names_of new)
+
 abbrev pub AddsDefinitions : {U E : Type 0} → Graph → Importing → List Definition → ImportScope → Defined → ImportScope → Defined
     → Result U E → Type 0
 AddsDefinitions g a xs old before new after r = IsGraph g → AreToWrite g a.types.now xs
     → (w : Worlds) (i : Inside) (imported : List Name) → HoldsDefined g w a i imported old before
-    → OnOk r (HoldsDefined g w a i imported new after)
+    → OnOk r (HoldsDefined g w a i imported new after × NotesAll xs before.nodes.entries after.nodes.entries)
 
 -- the world is written on with the definitions, and their nodes stand
-pub record AreDefined (g : Graph) (w : Worlds) (a : Importing) (i : Inside) (imported : List Name) (s : ImportScope)
-    (nodes : List (ℕ × SortIndex)) : Type 0 where
+pub record AreDefined (g : Graph) (w : Worlds) (a : Importing) (i : Inside) (imported : List Name) (xs : List Definition)
+    (s : ImportScope) (nodes : List (ℕ × SortIndex)) : Type 0 where
   pub known : KnownTypes
   pub holds : HoldsDefinitions g w a.types.now a.world i imported s known nodes
+  pub all : (x : Definition) → Among x xs → Among x.node (names_of nodes)
 
 abbrev pub WritesDefinitions : Graph → Importing → List Definition → (old new : ImportScope) → List (ℕ × SortIndex) → Type 0
 WritesDefinitions g a xs old new nodes = IsGraph g → AreToWrite g a.types.now xs
     → (w : Worlds) (i : Inside) (imported : List Name) → WritesOn w a.types.now [] a.world i old imported []
-    → AreDefined g w a i imported new nodes
+    → AreDefined g w a i imported xs new nodes

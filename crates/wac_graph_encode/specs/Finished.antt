@@ -23,6 +23,7 @@ use Rattle.wac_graph_asks.specs.Asked.{package_ids, with_ids, placed_in}
 use Rattle.wac_graph_asks.specs.Outers.{IsOuters}
 use Rattle.wac_graph_asks.specs.Wirings.{IsGraphWiring, asked_trees}
 use Rattle.wac_graph_causes.specs.declared.errors.Refusal.{Refusal}
+use Rattle.wac_graph_causes.specs.Unwritable.{alias_cause}
 use Rattle.wac_graph_encode.specs.declared.fault.BytesError.{BytesError}
 use Rattle.wac_graph_encode.specs.declared.options.EncodeOptions.{EncodeOptions}
 use Rattle.wac_graph_encode.specs.declared.instances.Wired.{Wired}
@@ -32,7 +33,7 @@ use Rattle.wac_graph_encode.specs.Defining.{AreToWrite}
 use Rattle.wac_graph_encode.specs.Encoding.{nested_in, HasUnfit, HaveDependencyNames, MeansGraph, StateGraph, IsComposed}
 use Rattle.wac_graph_encode.specs.Formed.{AreCopied}
 use Rattle.wac_graph_encode.specs.Refused.{FitsProcessor, HasNoneAlike, HasNoneFound, IsRefusedFor, waiting_cause}
-use Rattle.wac_graph_encode.specs.Worlds.{IsToHandOut}
+use Rattle.wac_graph_encode.specs.Worlds.{AreAllDefined, IsToHandOut}
 use Rattle.wac_graph_encode.specs.Beginning.{AreTold, IsBare, IsToBegin, nested_bytes}
 use Rattle.wac_graph_encode.specs.Importing.{AreToImport, AreWorldsOf}
 
@@ -55,6 +56,12 @@ pub record AreSpelled (es : List Entry) (bytes : List ℕ) : Type 0 where
 -- these are the packages that are instantiated, each once
 abbrev pub AreInstantiated : Graph → List PackageId → Type 0
 AreInstantiated g ids = ids ≡ with_ids [] (package_ids g)
+
+-- these are the packages and the definitions of the graph, and no alias in it is a value
+pub record HasAllOf (g : Graph) (ids : List PackageId) (xs : List Definition) : Type 0 where
+  pub packages : AreInstantiated g ids
+  pub definitions : AreAllDefined g xs
+  pub aliases : alias_cause g ≡ None
 
 -- Where this holds and the packages can be nested or imported, so it is in each world that is told of them.
 abbrev pub MeansSo : {E : Type 0} → (define : Bool) → Graph → List PackageId → (P : Type 0) → Result (Vec ℕ Global) E → Type 0

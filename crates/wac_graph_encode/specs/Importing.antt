@@ -24,6 +24,7 @@ use Rattle.wac_graph_asks.specs.Wirings.{asked_trees}
 use Rattle.wac_graph_causes.specs.Alike.{dependency_of}
 use Rattle.wac_graph_encode.specs.declared.root.Root.{Root}
 use Rattle.wac_graph_encode.specs.Rooting.{TakesScope}
+use Rattle.wac_graph_encode.specs.Ready.{AddsNames}
 
 -- ---- what is imported
 
@@ -112,6 +113,7 @@ pub record ImportsBefore (g : Graph) (c : Collection) (ps : Packages) (scope : I
   pub mid : Root
   pub imported : old.packages.entries ≡ [] → AreWorldsOf g c ps → (w : Worlds) (i : Inside) → IsItemScope w c [] i scope.scope
       → HasImportedAll w g c i ps between.scope mid.packages.entries
+  pub held : AddsNames (names_of ps) (names_of old.packages.entries) (names_of mid.packages.entries)
   pub places : between.places ≡ scope.places
   pub entries : mid.entries ≡ old.entries
   pub nodes : mid.nodes ≡ old.nodes

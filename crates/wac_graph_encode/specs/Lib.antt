@@ -5,6 +5,7 @@ pub mod Standing
 pub mod Defining
 pub mod Finished
 pub mod Writing
+pub mod Ready
 pub mod Rooting
 pub mod Nesting
 pub mod Beginning

@@ -3,6 +3,7 @@ pub use Rattle.wac_graph_encode.specs.Encoding.{bytes_in, bytes_of}
 use Rattle.std.specs.Prelude.{◌≡◌, ◌≤◌, ℕ, ◌+◌, Bool, List, [], ◌∷◌, length, map, Some, if◌then◌else◌}
 use Rattle.indexmap.specs.IndexMap.{insert_entry, insert_all}
 use Rattle.wac_types_base.specs.declared.item.ItemKind.{ItemKind}
+use Rattle.wac_types_base.specs.Entries.{names_of}
 use Rattle.wac_types_base.specs.Stated.{stated_of}
 use Rattle.wac_types_base.specs.Tree.{tree}
 use Rattle.wac_types_names.specs.Packaged.{Packaged}
@@ -19,6 +20,7 @@ use Rattle.wac_graph_encode.specs.declared.root.Root.{Root}
 use Rattle.wac_graph_encode.specs.Encoding.{tag_of}
 use Rattle.wac_graph_encode.specs.Standing.{counted, CountsNext}
 use Rattle.wac_graph_encode.specs.Writing.{AddsEntry}
+use Rattle.wac_graph_encode.specs.Ready.{AddsNames}
 use Rattle.wac_graph_encode.specs.Rooting.{AddsRead, TakesScope}
 
 -- of the root nothing else is changed
@@ -53,6 +55,7 @@ pub record NumbersAll (ids : List PackageId) (old new : Root) : Type 0 where
 pub record NestsAll (g : Graph) (ids : List PackageId) (old new : Root) : Type 0 where
   pub entries : AddsRead old.entries.items new.entries.items (map (λ id. Nested (bytes_of g id)) ids)
   pub numbers : IsCounted old → NumbersAll ids old new
+  pub held : AddsNames ids (names_of old.packages.entries) (names_of new.packages.entries)
   pub others : KeepsOthers old new
 
 -- what is written in the scope is taken to the root, and the packages are nested behind it

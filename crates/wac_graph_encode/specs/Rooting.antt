@@ -28,7 +28,7 @@ use Rattle.wac_graph_encode.specs.Standing.{counted}
 -- nothing stands in the scope
 pub record IsNewScope (s : ImportScope) : Type 0 where
   pub scope : (w : Worlds) (c : Collection) (outer : List Scope) → IsItemScope w c outer nothing_inside s.scope
-  pub used : s.used.all.items ≡ []
+  pub used : s.used ≡ []
 
 -- all imports of the world are written in a new scope, and nothing is exported
 abbrev pub WritesOuters : {U E : Type 0} → Importing → ImportScope → ImportScope → Result U E → Type 0

@@ -56,6 +56,11 @@ number_in order k = position_or_len (λ j. j == k) order
 abbrev pub by_number : List ℕ → Source ℕ → Source ℕ
 by_number order s = rename (number_in order) s
 
+-- the same under each name, in some order
+pub record Rearranges (xs ys : List (Name × ℕ)) : Type 0 where
+  pub distinct : AreDistinct (names_of ys)
+  pub kept : (n : Name) → value_at ys n ≡ value_at xs n
+
 module _ (g : Graph) where
   abbrev pub spelled : Name → Name
   spelled = spelling (asks_of (composition_of g))
@@ -148,7 +153,7 @@ module _ (g : Graph) where
         pub is : e.1 ≡ by_number order source
 
       -- All is written: the instances are those of the graph, in the order in which they were written, and the exports are the
-      -- graph's, in order.
+      -- graph's, in some order.
       pub record IsFinished (asked : List (Name × Tree)) (es : List Entry) : Type 0 where
         pub state : State
         pub reads : steps worlds start (map view es) ≡ Some state
@@ -158,4 +163,6 @@ module _ (g : Graph) where
         pub once : AreDistinct order
         pub all : (k : ℕ) → IsSome (instantiated g k) → Among k order
         pub instances : AllZip (IsListed order) order state.listed.instances
-        pub exports : AllZip (IsExported order) g.exports state.listed.exports
+        pub listing : List (Name × ℕ)
+        pub rearranged : Rearranges g.exports listing
+        pub exports : AllZip (IsExported order) listing state.listed.exports

@@ -1,5 +1,5 @@
 -- What writing the nodes of a graph does, one behind those that it needs.
-use Rattle.std.specs.Prelude.{◌≡◌, ◌⊎◌, ◌<◌, ◌≤◌, ℕ, Bool, true, List, ◌++◌, [], ◌∷◌, Option, Some, None, slice_get, Result, OnOk, IfOk, IfSome}
+use Rattle.std.specs.Prelude.{◌≡◌, ◌⊎◌, ◌<◌, ◌≤◌, ℕ, Bool, true, List, ◌++◌, [], ◌∷◌, Option, Some, None, slice_get, option_to_list, Result, OnOk, IfOk, IfSome}
 use Rattle.std.specs.List.{AllZip}
 use Rattle.wac_types_base.specs.declared.ids.WorldId.{WorldId}
 use Rattle.wac_types_base.specs.Record.{Collection}
@@ -26,7 +26,7 @@ use Rattle.wac_graph_encode.specs.declared.instances.Wired.{Wired}
 use Rattle.wac_graph_encode.specs.declared.instances.Standing.{Standing}
 use Rattle.wac_graph_scopes.specs.Items.{sort_of}
 use Rattle.wac_graph_encode.specs.Encoding.{nested_at}
-use Rattle.wac_graph_encode.specs.Standing.{counted, CountsNext, IsFinished, IsGivenAt, IsOuterAt, IsWritten}
+use Rattle.wac_graph_encode.specs.Standing.{counted, CountsNext, IsFinished, IsGivenAt, IsOuterAt, IsWritten, Rearranges}
 
 -- ---- entries
 
@@ -74,10 +74,6 @@ AreGivenAt g found nodes k ns as_ =
 -- under the name of each import of the world
 abbrev pub AreGivenIn : Collection → WorldId → Standing → List (Name × ℕ) → List NamedIndex → Type 0
 AreGivenIn types world s bound new = AreGivenUnder s bound (names_of (imports_of types world)) (arguments_view new)
-
--- so it is if the answer is yes
-abbrev pub IfYes : {E : Type 0} → Result Bool E → Type 0 → Type 0
-IfYes r P = IfOk r (λ yes. yes ≡ true → P)
 
 abbrev pub AddsArgument : List NamedIndex → List NamedIndex → Argument → Type 0
 AddsArgument old new a = arguments_view new ≡ arguments_view old ++ a ∷ []
@@ -140,13 +136,13 @@ pub record KeepsNodes (old new : Wired) : Type 0 where
   pub kept : (k : ℕ) (p : SortIndex) → Among (k, p) (noted old) → Among (k, p) (noted new)
 
 -- a node that did not stand is written, and stands at this index
-abbrev pub WritesNode : {E : Type 0} → ℕ → Wired → Wired → Result (Option SortIndex) E → Type 0
+abbrev pub WritesNode : {E : Type 0} → ℕ → Wired → Wired → Result SortIndex E → Type 0
 WritesNode k old new r = (define : Bool) (worlds : Worlds) (asked : List (Name × Tree)) → WrittenSo define worlds asked old
     → (Among k (names_of (noted old)) → ⊥)
-    → IfOk r (λ o. IfSome o (λ p. WrittenWith define worlds asked new (noted old ++ (k, p) ∷ [])))
+    → IfOk r (λ p. WrittenWith define worlds asked new (noted old ++ (k, p) ∷ []))
 
 -- an instance of the package to which that is passed is written, whichever node it is
-abbrev pub WritesInstance : {E : Type 0} → PackageId → List (Name × ℕ) → Wired → Wired → Result (Option SortIndex) E → Type 0
+abbrev pub WritesInstance : {E : Type 0} → PackageId → List (Name × ℕ) → Wired → Wired → Result SortIndex E → Type 0
 WritesInstance id bound old new r =
     (k : ℕ) → package_id_of (node_at old.graph.now k) ≡ Some id → AreArguments old.graph.now k bound → WritesNode k old new r
 
@@ -218,8 +214,19 @@ pub record AddsExport (nodes : List (ℕ × SortIndex)) (x : Name × ℕ) (old n
   pub added : new ≡ old ++ entry ∷ []
   pub is : IsExportOf nodes x entry
 
+-- of the exports those at these places
+abbrev pub exports_at : List (Name × ℕ) → List ℕ → List (Name × ℕ)
+exports_at xs [] = []
+exports_at xs (k ∷ ks) = option_to_list (slice_get xs k) ++ exports_at xs ks
+
 -- one more entry for each export
 pub record AddsExports (nodes : List (ℕ × SortIndex)) (exports : List (Name × ℕ)) (old new : List CodeEntry) : Type 0 where
   pub entries : List CodeEntry
   pub added : new ≡ old ++ entries
   pub are : AllZip (IsExportOf nodes) exports entries
+
+-- in some order
+pub record AddsInOrder (nodes : List (ℕ × SortIndex)) (exports : List (Name × ℕ)) (old new : List CodeEntry) : Type 0 where
+  pub listing : List (Name × ℕ)
+  pub rearranged : Rearranges exports listing
+  pub adds : AddsExports nodes listing old new

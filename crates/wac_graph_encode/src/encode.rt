@@ -10,12 +10,14 @@ ghost use Rattle.wac_graph_asks.specs.AskedUses.{AskedStand, CopiesStand};
 ghost use Rattle.wac_graph_asks.specs.Outers.{AnswersOuters};
 ghost use Rattle.wac_graph_causes.specs.Acyclic.{IsNoCycle};
 ghost use Rattle.wac_graph_causes.specs.Circling.{PackagesStand};
+ghost use Rattle.wac_graph_causes.specs.Unwritable.{alias_cause};
+ghost use Rattle.wac_graph_encode.specs.Beginning.{IsToBegin};
 ghost use Rattle.wac_graph_encode.specs.Encoding.{HasTrueWorld, HasUnfit};
 ghost use Rattle.wac_graph_encode.specs.Worlds.{IsToHandOut};
 ghost use Rattle.wac_graph_encode.specs.Refused.{FitsProcessor, HasLargeProcessor, HasNoneAlike, HasNoneClashing, HasNoneFound, HasNoneUnwritten};
 ghost use Rattle.wac_graph_encode.specs.Refused.{IsErrorFor, IsFree, IsRefusedFor, waiting_cause};
 ghost use Rattle.wac_graph_encode.specs.Finished.{IfOfSize, UnfitAsked, UnfitWired};
-ghost use Rattle.wac_graph_encode.specs.Finished.{AreSpelled, IsPrepared, MeansAsked, MeansImported, MeansNested, MeansWired, NestsSo, NestsWired};
+ghost use Rattle.wac_graph_encode.specs.Finished.{AreSpelled, HasAllOf, IsPrepared, IsThere, MeansAsked, MeansImported, MeansNested, MeansWired, NestsSo, NestsWired};
 ghost use Rattle.wac_graph_encode.specs.Finished.{PreparedHands, PreparedImports, PreparedMeans, PreparedWaits, RefusesPrepared};
 
 use crate::fault::BytesError;
@@ -82,7 +84,10 @@ fn bytes_of_entries(
 
 /// The bytes of a composition, where nothing of it is written yet.
 fn bytes_wired(writing: Writing<'_>, wired: &mut Wired<'_>) -> Result<Vec<u8>, BytesError>
-    requires { wired.old.outers ≡ [] }
+    requires none { wired.old.outers ≡ [] }
+    requires graph { wired.old.graph.now ≡ writing.graph.now }
+    requires to { IsToBegin writing }
+    requires all { HasAllOf writing.graph.now (names_of writing.worlds.now.entries) writing.definitions.now }
     ensures means { MeansWired writing.entry wired.old result }
     ensures nests { NestsWired writing.entry wired.old result }
     ensures unfit { UnfitWired writing.entry wired.old result }
@@ -104,6 +109,8 @@ fn bytes_of(
     definitions: &[Definition],
     options: &EncodeOptions,
 ) -> Result<Vec<u8>, BytesError>
+    requires there { IsThere graph.now asked.now outers.now definitions.now }
+    requires all { HasAllOf graph.now (names_of asked.now.packages.entries) definitions.now }
     ensures means { MeansAsked graph.now asked.now outers.now definitions.now options.now result }
     ensures nests { NestsSo options.now.define_components graph.now (names_of asked.now.packages.entries) result }
     ensures unfit { UnfitAsked graph.now asked.now outers.now definitions.now options.now result }
@@ -112,6 +119,7 @@ fn bytes_of(
         types: &asked.types,
         world: outers.world,
         called: outers.called.as_slice(),
+        over_exports: false,
     };
     let writing = Writing {
         graph,
@@ -150,6 +158,8 @@ fn bytes_asked(
 ) -> Result<(Vec<u8>, Vec<Definition>), Refusal>
     requires copies { CopiesStand asked.old.types asked.old.definitions.items }
     requires packages { PackagesStand asked.old.types asked.old.packages.entries }
+    requires prepared { IsPrepared graph.now asked.old outers.now }
+    requires aliases { alias_cause graph.now ≡ None }
     ensures means { IfOk result (λ p. PreparedMeans graph.now asked.old outers.now options.now p.0.items) }
     ensures imports { IfOk result (λ p. PreparedImports graph.now asked.old outers.now options.now p.0.items) }
     ensures waits { OnOk result (PreparedWaits graph.now asked.old outers.now options.now) }
@@ -192,6 +202,7 @@ fn encoded_asked(
 ) -> Result<Encoded, Refusal>
     requires copies { CopiesStand asked.old.types asked.old.definitions.items }
     requires prepared { IsPrepared graph.now asked.old outers.now }
+    requires aliases { alias_cause graph.now ≡ None }
     ensures means { IfOk result (λ e. MeansNested graph.now options.now e.bytes.items) }
     ensures imports { IfOk result (λ e. MeansImported graph.now options.now e.bytes.items) }
     ensures waits { OnOk result (waiting_cause options.now graph.now ≡ None) }

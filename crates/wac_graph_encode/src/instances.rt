@@ -1,16 +1,19 @@
 //! The instances, aliases and exports of a composition, as entries.
 
-ghost use Rattle.std.specs.Prelude.{◌≡◌, ◌<◌, ◌++◌, ℕ, [], ◌∷◌, Some, true, IfOk, IfSome, IfNone, OnOk};
-ghost use Rattle.wac_types_base.specs.Entries.{AreDistinct, names_of};
+ghost use Rattle.std.specs.Prelude.{◌≡◌, ◌++◌, [], ◌∷◌, Some, IfOk, IfSome, IfNone, OnOk, slice_get};
+ghost use Rattle.wac_types_base.specs.Entries.{AreDistinct, names_of, value_at};
 ghost use Rattle.wac_types_base.specs.Graph.{Among};
 ghost use Rattle.wac_graph_bytes.specs.Views.{arguments_view};
-ghost use Rattle.wac_graph_core.specs.Graph.{IsOfKind};
+ghost use Rattle.wac_graph_core.specs.Graph.{ContainsNode, IsOfKind};
 ghost use Rattle.wac_graph_scopes.specs.Parts.{imports_of};
 ghost use Rattle.wac_graph_asks.specs.Reads.{AreArguments};
 ghost use Rattle.wac_graph_scopes.specs.Items.{sort_of};
 ghost use Rattle.wac_graph_encode.specs.Beginning.{IsBare};
-ghost use Rattle.wac_graph_encode.specs.Writing.{Finishes, AddsArgument, AddsCalled, AddsEntry, AddsExport, AddsExports, AddsGiven, AddsNeeded, AddsOnly, AreCalled, AreGivenIn, Below, GivesUnder, IfYes, IsAliasAt, IsSameRoot, KeepsNodes, KeepsWritten, PassesAll, UpTo, UpToOne, WritesInstance, WritesNode, exported_as, noted, NestsNoMore, AllAreWritten};
+ghost use Rattle.wac_graph_encode.specs.Ready.{AddsNames, AddsSource, AllStand, AllStandUnder, ArePlacedAt, AreThere, CanBeAlias, CanBePassed, HasNeeded};
+ghost use Rattle.wac_graph_encode.specs.Ready.{IsPlacedAt, IsReady, IsReadyWith, IsUnsorted, NeededStand, StandsUnder, called_names};
+ghost use Rattle.wac_graph_encode.specs.Writing.{Finishes, AddsArgument, AddsCalled, AddsEntry, AddsExport, AddsExports, AddsInOrder, exports_at, AddsGiven, AddsNeeded, AddsOnly, AreCalled, AreGivenIn, Below, GivesUnder, IsAliasAt, IsSameRoot, KeepsNodes, KeepsWritten, PassesAll, UpTo, UpToOne, WritesInstance, WritesNode, exported_as, noted, NestsNoMore, AllAreWritten};
 
+use crate::exports::export_order;
 use crate::labels::names_of_nodes;
 use crate::root::{Root, push_entry};
 use indexmap::IndexMap;
@@ -56,13 +59,28 @@ fn sort_of(kind: ItemKind) -> Option<Sort>
     }
 }
 
-/// What sort a node is of.
-fn sort_at(graph: &CompositionGraph, node: NodeId) -> Option<Sort>
-    ensures { IfSome result (λ s. IsOfKind graph.now node (λ x. sort_of x ≡ Some s)) }
+/// What sort a node is of that is of some.
+fn sort_at(graph: &CompositionGraph, node: NodeId) -> Sort
+    requires { IsUnsorted graph.now node → ⊥ }
+    ensures { IsOfKind graph.now node (λ x. sort_of x ≡ Some result) }
 {
     match kind_of(graph, node) {
-        Some(kind) => sort_of(kind),
-        None => None,
+        Some(kind) => match sort_of(kind) {
+            Some(sort) => sort,
+            None => unreachable!(),
+        },
+        None => unreachable!(),
+    }
+}
+
+/// What is written of the outer import at a place.
+fn place_at(imports: &[Option<SortIndex>], at: usize) -> SortIndex
+    requires { IsPlacedAt imports.now at }
+    ensures { slice_get imports.now at ≡ Some (Some result) }
+{
+    match imports[at] {
+        Some(place) => place,
+        None => unreachable!(),
     }
 }
 
@@ -73,15 +91,12 @@ fn add_outer(
     imports: &[Option<SortIndex>],
     outers: &mut NamedMap<SortIndex>,
 ) -> Result<(), AllocError>
-    ensures { OnOk result (AddsCalled one.now imports.now outers.old outers.new) }
+    requires { IsPlacedAt imports.now one.now.at }
+    ensures adds { OnOk result (AddsCalled one.now imports.now outers.old outers.new) }
+    ensures names { OnOk result (AddsNames (one.now.name ∷ []) (names_of outers.old) (names_of outers.new)) }
 {
-    let Some(written) = imports.get(one.at) else {
-        return Ok(());
-    };
-    match *written {
-        Some(place) => insert_under(alloc, outers, one.name.as_str(), place),
-        None => Ok(()),
-    }
+    let place = place_at(imports, one.at);
+    insert_under(alloc, outers, one.name.as_str(), place)
 }
 
 /// Adds what stands for the outer imports, by the names under which they are asked for.
@@ -91,8 +106,10 @@ fn add_outers(
     imports: &[Option<SortIndex>],
     outers: &mut NamedMap<SortIndex>,
 ) -> Result<(), AllocError>
-    requires { outers.old ≡ [] }
-    ensures { OnOk result (AreCalled called.now imports.now outers.new) }
+    requires none { outers.old ≡ [] }
+    requires placed { ArePlacedAt imports.now called.now }
+    ensures called { OnOk result (AreCalled called.now imports.now outers.new) }
+    ensures names { OnOk result (AddsNames (called_names called.now) (names_of outers.old) (names_of outers.new)) }
 {
     for one in called {
         add_outer(alloc, one, imports, outers)?;
@@ -114,8 +131,10 @@ fn push_alias_source(
     node: NodeId,
     sources: &mut Vec<NodeId>,
 ) -> Result<(), AllocError>
-    ensures { OnOk result (AddsNeeded graph.now node sources.old.items sources.new.items) }
+    ensures only { OnOk result (AddsNeeded graph.now node sources.old.items sources.new.items) }
+    ensures all { OnOk result (AddsSource graph.now node sources.old.items sources.new.items) }
 {
+    graph.see_sound();
     match graph.get_alias_source(node) {
         Some(found) => push_node(sources, found.0),
         None => Ok(()),
@@ -130,8 +149,10 @@ fn push_sources(
     sources: &mut Vec<NodeId>,
 ) -> Result<(), AllocError>
     requires { AreArguments graph.now node bound.now }
-    ensures { OnOk result (AddsNeeded graph.now node sources.old.items sources.new.items) }
+    ensures only { OnOk result (AddsNeeded graph.now node sources.old.items sources.new.items) }
+    ensures all { OnOk result (HasNeeded graph.now node sources.new.items) }
 {
+    graph.see_sound();
     for argument in bound.nodes() {
         push_node(sources, *argument)?;
     }
@@ -163,36 +184,55 @@ struct Standing<'a> {
     outers: &'a NamedMap<SortIndex>,
 }
 
-/// What is passed to an instance under a name.
-fn argument(standing: Standing<'_>, bound: &Arguments, name: &str) -> Option<SortIndex>
-    ensures { IfSome result (GivesUnder standing.entry bound.now name.now) }
+/// What stands for a node.
+fn place_of(nodes: &IndexMap<NodeId, SortIndex>, node: NodeId) -> SortIndex
+    requires { Among node (names_of nodes.now.entries) }
+    ensures { Among (node, result) nodes.now.entries }
 {
-    match bound.get(name) {
-        Some(argument) => standing.nodes.get(&argument).copied(),
-        None => standing.outers.get(name).copied(),
+    match nodes.get(&node) {
+        Some(place) => *place,
+        None => unreachable!(),
     }
 }
 
-/// Adds what is passed to an instance under a name, where it stands. Whether it does.
+/// What stands for an outer import, by a name under which it is asked for.
+fn place_under(outers: &NamedMap<SortIndex>, name: &str) -> SortIndex
+    requires { Among name.now (names_of outers.now) }
+    ensures { value_at outers.now name.now ≡ Some result }
+{
+    match outers.get(name) {
+        Some(place) => *place,
+        None => unreachable!(),
+    }
+}
+
+/// What is passed to an instance under a name.
+fn argument(standing: Standing<'_>, bound: &Arguments, name: &str) -> SortIndex
+    requires { StandsUnder standing.outers.now standing.nodes.now.entries bound.now name.now }
+    ensures { GivesUnder standing.entry bound.now name.now result }
+{
+    match bound.get(name) {
+        Some(argument) => place_of(standing.nodes, argument),
+        None => place_under(standing.outers, name),
+    }
+}
+
+/// Adds what is passed to an instance under a name.
 fn push_given(
     alloc: Global,
     standing: Standing<'_>,
     bound: &Arguments,
     name: &str,
     arguments: &mut Vec<NamedIndex>,
-) -> Result<bool, AllocError>
-    ensures { IfYes result (AddsGiven standing.entry bound.now name.now arguments.old.items arguments.new.items) }
+) -> Result<(), AllocError>
+    requires { StandsUnder standing.outers.now standing.nodes.now.entries bound.now name.now }
+    ensures { OnOk result (AddsGiven standing.entry bound.now name.now arguments.old.items arguments.new.items) }
 {
-    match argument(standing, bound, name) {
-        Some(place) => {
-            push_argument(alloc, arguments, name, place)?;
-            Ok(true)
-        }
-        None => Ok(false),
-    }
+    let place = argument(standing, bound, name);
+    push_argument(alloc, arguments, name, place)
 }
 
-/// Adds the arguments of an instance of that world. Whether all stand.
+/// Adds the arguments of an instance of that world, all of which stand.
 fn push_arguments(
     alloc: Global,
     types: &Types,
@@ -200,40 +240,35 @@ fn push_arguments(
     standing: Standing<'_>,
     bound: &Arguments,
     arguments: &mut Vec<NamedIndex>,
-) -> Result<bool, AllocError>
-    requires { arguments.old.items ≡ [] }
-    ensures given { IfYes result (AreGivenIn types.now world standing.entry bound.now arguments.new.items) }
+) -> Result<(), AllocError>
+    requires none { arguments.old.items ≡ [] }
+    requires stand { AllStandUnder types.now world standing.outers.now standing.nodes.now.entries bound.now }
+    ensures given { OnOk result (AreGivenIn types.now world standing.entry bound.now arguments.new.items) }
     ensures distinct { AreDistinct (names_of (imports_of types.now world)) }
 {
     for at in 0..import_count(types, world) {
         if let Some(import) = import_at(types, world, at) {
-            let stands = push_given(alloc, standing, bound, import.name, arguments)?;
-            if !stands {
-                return Ok(false);
-            }
+            push_given(alloc, standing, bound, import.name, arguments)?;
         }
     }
-    Ok(true)
+    Ok(())
 }
 
-/// The arguments of an instance of that world, where all stand.
+/// The arguments of an instance of that world, all of which stand.
 fn arguments_in(
     alloc: Global,
     types: &Types,
     world: WorldId,
     standing: Standing<'_>,
     bound: &Arguments,
-) -> Result<Option<Vec<NamedIndex>>, AllocError>
-    ensures given { IfOk result (λ o. IfSome o (λ v. AreGivenIn types.now world standing.entry bound.now v.items)) }
+) -> Result<Vec<NamedIndex>, AllocError>
+    requires { AllStandUnder types.now world standing.outers.now standing.nodes.now.entries bound.now }
+    ensures given { IfOk result (λ v. AreGivenIn types.now world standing.entry bound.now v.items) }
     ensures distinct { AreDistinct (names_of (imports_of types.now world)) }
 {
     let mut arguments = Vec::new(alloc);
-    let all_stand = push_arguments(alloc, types, world, standing, bound, &mut arguments)?;
-    if all_stand {
-        Ok(Some(arguments))
-    } else {
-        Ok(None)
-    }
+    push_arguments(alloc, types, world, standing, bound, &mut arguments)?;
+    Ok(arguments)
 }
 
 /// Adds an export.
@@ -272,29 +307,51 @@ fn export_node(
     }
 }
 
-/// Adds the exports of a graph, all of whose nodes stand.
+/// Adds the export at a place of a graph, all of whose nodes stand.
+fn export_at(
+    graph: &CompositionGraph,
+    nodes: &IndexMap<NodeId, SortIndex>,
+    at: usize,
+    entries: &mut Vec<Entry>,
+) -> Result<(), AllocError>
+    requires { AllAreWritten graph.now nodes.now.entries }
+    ensures { OnOk result (AddsExports nodes.now.entries (exports_at graph.now.exports (at ∷ [])) entries.old.items entries.new.items) }
+{
+    graph.see_sound();
+    match graph.exports().get(at) {
+        Some((name, node)) => export_node(graph.alloc(), nodes, name.as_str(), *node, entries),
+        None => Ok(()),
+    }
+}
+
+/// Adds the exports at these places.
+fn push_in_order(
+    graph: &CompositionGraph,
+    nodes: &IndexMap<NodeId, SortIndex>,
+    order: &[usize],
+    entries: &mut Vec<Entry>,
+) -> Result<(), AllocError>
+    requires { AllAreWritten graph.now nodes.now.entries }
+    ensures { OnOk result (AddsExports nodes.now.entries (exports_at graph.now.exports order.now) entries.old.items entries.new.items) }
+{
+    for at in order {
+        export_at(graph, nodes, *at, entries)?;
+    }
+    Ok(())
+}
+
+/// Adds the exports of a graph, all of whose nodes stand, each behind those that it uses.
 fn push_exports(
     graph: &CompositionGraph,
     nodes: &IndexMap<NodeId, SortIndex>,
     entries: &mut Vec<Entry>,
 ) -> Result<(), AllocError>
     requires { AllAreWritten graph.now nodes.now.entries }
-    ensures { OnOk result (AddsExports nodes.now.entries graph.now.exports entries.old.items entries.new.items) }
+    ensures { OnOk result (AddsInOrder nodes.now.entries graph.now.exports entries.old.items entries.new.items) }
 {
     graph.see_sound();
-    for (name, node) in graph.exports() {
-        export_node(graph.alloc(), nodes, name.as_str(), *node, entries)?;
-    }
-    Ok(())
-}
-
-/// How many nodes a graph has.
-fn node_count(graph: &CompositionGraph) -> usize {
-    let mut count = 0usize;
-    for _ in graph.node_ids() {
-        count = count.saturating_add(1);
-    }
-    count
+    let order = export_order(graph)?;
+    push_in_order(graph, nodes, order.as_slice(), entries)
 }
 
 impl<'a> Wired<'a> {
@@ -320,44 +377,47 @@ impl<'a> Wired<'a> {
         self.root.nodes.get(&node).copied()
     }
 
-    /// The sort of an alias, the index of its source and its name there, where its source stands.
-    fn alias_of(&self, node: NodeId) -> Option<(Sort, u64, &'a str)>
-        ensures { IfSome result (λ x. IsAliasAt self.now node x.0 x.1 x.2.now) }
+    /// The index of a package that is nested or imported.
+    fn component(&self, id: PackageId) -> u64
+        requires { Among id (names_of self.now.root.packages.entries) }
+        ensures { Among (id, result) self.now.root.packages.entries }
     {
-        let Some(found) = self.graph.get_alias_source(node) else {
-            return None;
-        };
-        let Some(place) = self.node(found.0) else {
-            return None;
-        };
-        let Some(sort) = sort_at(self.graph, node) else {
-            return None;
-        };
-        Some((sort, place.index, found.1))
+        match self.root.packages.get(&id) {
+            Some(index) => *index,
+            None => unreachable!(),
+        }
     }
 
-    /// Writes an alias, where its source stands.
-    fn alias(&mut self, node: NodeId) -> Result<Option<SortIndex>, AllocError>
+    /// The sort of an alias, the index of its source and its name there.
+    fn alias_of(&self, node: NodeId) -> (Sort, u64, &'a str)
+        requires { CanBeAlias self.now node }
+        ensures { IsAliasAt self.now node result.0 result.1 result.2.now }
+    {
+        let sort = sort_at(self.graph, node);
+        match self.graph.get_alias_source(node) {
+            Some(found) => (sort, place_of(&self.root.nodes, found.0).index, found.1),
+            None => unreachable!(),
+        }
+    }
+
+    /// Writes an alias, whose source stands.
+    fn alias(&mut self, node: NodeId) -> Result<SortIndex, AllocError>
+        requires { CanBeAlias self.old node }
         ensures writes { WritesNode node self.old self.new result }
         ensures same { OnOk result (IsSameRoot self.old self.new) }
         ensures nodes { OnOk result (self.new.root.nodes ≡ self.old.root.nodes) }
     {
         self.graph.see_sound();
         self.graph.types().see_acyclic();
-        let Some((sort, index, name)) = self.alias_of(node) else {
-            return Ok(None);
-        };
+        let (sort, index, name) = self.alias_of(node);
         let place = self.root.add_alias(self.alloc, sort, index, name)?;
-        Ok(Some(place))
+        Ok(place)
     }
 
-    /// The arguments of an instance, where all stand.
-    fn arguments(
-        &self,
-        id: PackageId,
-        bound: &Arguments,
-    ) -> Result<Option<Vec<NamedIndex>>, AllocError>
-        ensures { IfOk result (λ o. IfSome o (λ v. PassesAll self.now id bound.now (arguments_view v.items))) }
+    /// The arguments of an instance, all of which stand.
+    fn arguments(&self, id: PackageId, bound: &Arguments) -> Result<Vec<NamedIndex>, AllocError>
+        requires { CanBePassed self.now id bound.now }
+        ensures { IfOk result (λ v. PassesAll self.now id bound.now (arguments_view v.items)) }
     {
         match world_at(self.graph, id) {
             Some(world) => {
@@ -367,44 +427,40 @@ impl<'a> Wired<'a> {
                 };
                 arguments_in(self.alloc, self.graph.types(), world, standing, bound)
             }
-            None => Ok(None),
+            None => unreachable!(),
         }
     }
 
-    /// Writes an instance, where its arguments stand.
-    fn instance(
-        &mut self,
-        id: PackageId,
-        bound: &Arguments,
-    ) -> Result<Option<SortIndex>, AllocError>
+    /// Writes an instance, whose arguments stand.
+    fn instance(&mut self, id: PackageId, bound: &Arguments) -> Result<SortIndex, AllocError>
+        requires held { Among id (names_of self.old.root.packages.entries) }
+        requires passed { CanBePassed self.old id bound.now }
         ensures writes { WritesInstance id bound.now self.old self.new result }
         ensures same { OnOk result (IsSameRoot self.old self.new) }
         ensures nodes { OnOk result (self.new.root.nodes ≡ self.old.root.nodes) }
     {
         self.graph.see_sound();
         self.graph.types().see_acyclic();
-        let Some(component) = self.root.packages.get(&id).copied() else {
-            return Ok(None);
-        };
-        match self.arguments(id, bound)? {
-            Some(arguments) => {
-                let place = self.root.add_instance(component, arguments)?;
-                Ok(Some(place))
-            }
-            None => Ok(None),
-        }
+        let component = self.component(id);
+        let arguments = self.arguments(id, bound)?;
+        let place = self.root.add_instance(component, arguments)?;
+        Ok(place)
     }
 
     /// Writes a node, where all stands that it needs.
-    fn written(&mut self, node: NodeId, bound: &Arguments) -> Result<Option<SortIndex>, AllocError>
-        requires { AreArguments self.old.graph.now node bound.now }
+    fn written(&mut self, node: NodeId, bound: &Arguments) -> Result<SortIndex, AllocError>
+        requires ready { IsReady self.old }
+        requires there { ContainsNode self.old.graph.now node }
+        requires needed { NeededStand self.old node }
+        requires bound { AreArguments self.old.graph.now node bound.now }
+        requires new { Among node (names_of (noted self.old)) → ⊥ }
         ensures writes { WritesNode node self.old self.new result }
         ensures same { OnOk result (IsSameRoot self.old self.new) }
         ensures nodes { OnOk result (self.new.root.nodes ≡ self.old.root.nodes) }
     {
         self.graph.see_sound();
         if let Some(name) = import_name(self.graph, node) {
-            return Ok(self.outers.get(name).copied());
+            return Ok(place_under(&self.outers, name));
         }
         match package_of(self.graph, node) {
             Some(id) => self.instance(id, bound),
@@ -415,37 +471,36 @@ impl<'a> Wired<'a> {
     /// The nodes that one needs: its arguments, or what it is an alias of.
     fn sources_of(&self, node: NodeId, bound: &Arguments) -> Result<Vec<NodeId>, AllocError>
         requires { AreArguments self.now.graph.now node bound.now }
-        ensures { IfOk result (λ v. AddsNeeded self.now.graph.now node [] v.items) }
+        ensures only { IfOk result (λ v. AddsNeeded self.now.graph.now node [] v.items) }
+        ensures all { IfOk result (λ v. HasNeeded self.now.graph.now node v.items) }
     {
         let mut sources = Vec::new(self.alloc);
         push_sources(self.graph, node, bound, &mut sources)?;
         Ok(sources)
     }
 
-    /// Writes a node behind those that it needs, unless it stands. No path of nodes is longer than there are nodes,
-    /// since none needs itself, so the depth that is left lasts.
+    /// Writes a node behind those that it needs, unless it stands.
     #[cycle(nodes)]
-    fn write_node(&mut self, node: NodeId, depth: usize) -> Result<(), AllocError>
+    fn write_node(&mut self, node: NodeId) -> Result<(), AllocError>
+        requires ready { IsReady self.old }
+        requires there { ContainsNode self.old.graph.now node }
         ensures writes { KeepsWritten self.old self.new result }
         ensures keeps { OnOk result (KeepsNodes self.old self.new) }
         ensures only { OnOk result (AddsOnly (UpTo node) self.old self.new) }
-        ensures stands { 0 < depth → OnOk result (Among node (names_of (noted self.new))) }
+        ensures stands { OnOk result (Among node (names_of (noted self.new))) }
     {
-        if depth == 0 || self.node(node).is_some() {
+        if self.node(node).is_some() {
             return Ok(());
         }
         let bound = Arguments::of(self.alloc, self.graph, node)?;
-        self.write_bound(node, &bound, depth - 1)
+        self.write_bound(node, &bound)
     }
 
     /// Writes a node behind those that it needs.
     #[cycle(nodes)]
-    fn write_bound(
-        &mut self,
-        node: NodeId,
-        bound: &Arguments,
-        depth: usize,
-    ) -> Result<(), AllocError>
+    fn write_bound(&mut self, node: NodeId, bound: &Arguments) -> Result<(), AllocError>
+        requires ready { IsReady self.old }
+        requires there { ContainsNode self.old.graph.now node }
         requires bound { AreArguments self.old.graph.now node bound.now }
         requires new { Among node (names_of (noted self.old)) → ⊥ }
         ensures writes { KeepsWritten self.old self.new result }
@@ -454,42 +509,46 @@ impl<'a> Wired<'a> {
         ensures stands { OnOk result (Among node (names_of (noted self.new))) }
     {
         self.graph.see_sound();
-        self.write_sources(node, bound, depth)?;
+        self.write_sources(node, bound)?;
         self.write_itself(node, bound)
     }
 
-    /// Writes the nodes that one needs.
+    /// Writes the nodes that one needs. No node is needed by one that it needs, so this ends.
     #[cycle(nodes)]
-    fn write_sources(
-        &mut self,
-        node: NodeId,
-        bound: &Arguments,
-        depth: usize,
-    ) -> Result<(), AllocError>
-        requires { AreArguments self.old.graph.now node bound.now }
+    fn write_sources(&mut self, node: NodeId, bound: &Arguments) -> Result<(), AllocError>
+        requires ready { IsReady self.old }
+        requires bound { AreArguments self.old.graph.now node bound.now }
         ensures writes { KeepsWritten self.old self.new result }
         ensures keeps { OnOk result (KeepsNodes self.old self.new) }
         ensures only { OnOk result (AddsOnly (Below node) self.old self.new) }
+        ensures stand { OnOk result (NeededStand self.new node) }
     {
+        self.graph.see_sound();
         let sources = self.sources_of(node, bound)?;
-        self.write_each(&sources, depth)
+        self.write_each(&sources)
     }
 
     /// Writes nodes behind those that they need.
     #[cycle(nodes)]
-    fn write_each(&mut self, nodes: &[NodeId], depth: usize) -> Result<(), AllocError>
+    fn write_each(&mut self, nodes: &[NodeId]) -> Result<(), AllocError>
+        requires ready { IsReady self.old }
+        requires there { AreThere self.old.graph.now nodes.now }
         ensures writes { KeepsWritten self.old self.new result }
         ensures keeps { OnOk result (KeepsNodes self.old self.new) }
         ensures only { OnOk result (AddsOnly (UpToOne nodes.now) self.old self.new) }
+        ensures stand { OnOk result (AllStand self.new nodes.now) }
     {
         for node in nodes {
-            self.write_node(*node, depth)?;
+            self.write_node(*node)?;
         }
         Ok(())
     }
 
     /// Writes a node where those that it needs stand.
     fn write_itself(&mut self, node: NodeId, bound: &Arguments) -> Result<(), AllocError>
+        requires ready { IsReady self.old }
+        requires there { ContainsNode self.old.graph.now node }
+        requires needed { NeededStand self.old node }
         requires bound { AreArguments self.old.graph.now node bound.now }
         requires new { Among node (names_of (noted self.old)) → ⊥ }
         ensures writes { KeepsWritten self.old self.new result }
@@ -497,32 +556,29 @@ impl<'a> Wired<'a> {
         ensures only { OnOk result (AddsOnly (λ rank k. k ≡ node) self.old self.new) }
         ensures stands { OnOk result (Among node (names_of (noted self.new))) }
     {
-        match self.written(node, bound)? {
-            Some(place) => {
-                let _ = self.root.nodes.insert(node, place)?;
-                Ok(())
-            }
-            // Each node that others need stands by now: imports are outer imports, definitions are written.
-            None => Err(AllocError),
-        }
+        let place = self.written(node, bound)?;
+        let _ = self.root.nodes.insert(node, place)?;
+        Ok(())
     }
 
     /// Writes all nodes, each behind those that it needs.
     fn write_nodes(&mut self) -> Result<(), AllocError>
+        requires { IsReady self.old }
         ensures writes { KeepsWritten self.old self.new result }
         ensures keeps { OnOk result (KeepsNodes self.old self.new) }
         ensures all { OnOk result (AllAreWritten self.new.graph.now (noted self.new)) }
     {
-        let depth = node_count(self.graph).saturating_add(1);
         for node in self.graph.node_ids() {
-            self.write_node(node, depth)?;
+            self.write_node(node)?;
         }
         Ok(())
     }
 
     /// Writes all that stands behind the root's types and imports; the names of nodes.
     pub(crate) fn write_all(&mut self, called: &[Called]) -> Result<Vec<SortNames>, AllocError>
-        requires { self.old.outers ≡ [] }
+        requires none { self.old.outers ≡ [] }
+        requires placed { ArePlacedAt self.old.root.imports.items called.now }
+        requires ready { IsReadyWith self.old.graph.now (called_names called.now) self.old.root }
         ensures finishes { Finishes called.now self.old self.new result }
         ensures nests { OnOk result (NestsNoMore self.old.root self.new.root) }
     {

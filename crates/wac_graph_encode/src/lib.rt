@@ -3,6 +3,7 @@
 
 mod copying;
 pub mod encode;
+mod exports;
 mod fault;
 mod forms;
 mod instances;

@@ -16,7 +16,8 @@ ghost use Rattle.wac_graph_encode.specs.Standing.{counted, CountsNext};
 ghost use Rattle.wac_graph_encode.specs.Writing.{AddsEntry, AddsIndex, AddsInstance};
 ghost use Rattle.wac_graph_encode.specs.Rooting.{AddsRead, IsNewScope, ReadsAtRoot, TakesScope, WritesItem, WritesOuters, WritesOwn, counter};
 ghost use Rattle.wac_graph_encode.specs.Defining.{AddsDefinitions, WritesDefinition, WritesDefinitions};
-ghost use Rattle.wac_graph_encode.specs.Beginning.{Begins, BeginsRoot, NestsThese};
+ghost use Rattle.wac_graph_encode.specs.Beginning.{Begins, BeginsRoot, HoldsAll, HoldsTaken, IsToBegin, NestsThese};
+ghost use Rattle.wac_graph_encode.specs.Ready.{AddsNames};
 ghost use Rattle.wac_graph_encode.specs.Nesting.{NestsAll, NestsBehind, NestsOne, bytes_of};
 ghost use Rattle.wac_graph_encode.specs.Importing.{ImportsAll, ImportsBefore, ImportsComponent, ImportsPackage};
 
@@ -29,8 +30,8 @@ use wac_graph_bytes::{Alias, Declaration, Description, Entry, NamedIndex, Sort};
 use wac_graph_causes::names::dependency_name;
 use wac_graph_core::{CompositionGraph, NodeId, PackageId};
 use wac_graph_scopes::fault::WriteError;
-use wac_graph_scopes::imports::{ImportScope, Importing, SortIndex, describe_alone};
-use wac_graph_scopes::items::ItemScope;
+use wac_graph_scopes::imports::{ImportScope, Importing, SortIndex};
+use wac_graph_scopes::items::{ItemScope, describe_package};
 use wac_graph_scopes::parts::Item;
 use wac_graph_scopes::scope::KnownTypes;
 use wac_types_base::{ItemKind, Types, WorldId};
@@ -244,7 +245,7 @@ fn import_component(
     ensures places { scope.new.places ≡ scope.old.places }
 {
     let kind = ItemKind::Component(world);
-    let description = describe_alone(alloc, &mut scope.scope, types, kind)?;
+    let description = describe_package(alloc, &mut scope.scope, types, world)?;
     let place = scope.import(alloc, types, Item { name, kind }, description)?;
     Ok(place.index)
 }
@@ -259,6 +260,7 @@ fn import_package(
     packages: &mut IndexMap<PackageId, u64>,
 ) -> Result<(), WriteError>
     ensures imports { ImportsPackage graph.now types.now id world scope.old packages.old scope.new packages.new result }
+    ensures held { OnOk result (AddsNames (id ∷ []) (names_of packages.old.entries) (names_of packages.new.entries)) }
     ensures places { scope.new.places ≡ scope.old.places }
 {
     let alloc = graph.alloc();
@@ -277,6 +279,7 @@ fn import_packages(
     packages: &mut IndexMap<PackageId, u64>,
 ) -> Result<(), WriteError>
     ensures imports { ImportsAll graph.now types.now worlds.now.entries scope.old packages.old scope.new packages.new result }
+    ensures held { OnOk result (AddsNames (names_of worlds.now.entries) (names_of packages.old.entries) (names_of packages.new.entries)) }
     ensures places { scope.new.places ≡ scope.old.places }
 {
     for (id, world) in worlds.iter() {
@@ -535,6 +538,7 @@ fn write_packages(
 ) -> Result<(), WriteError>
     ensures nests { NestsThese writing.entry root.old root.new result }
     ensures begins { Begins writing.entry scope.old root.old root.new result }
+    ensures holds { OnOk result (HoldsTaken writing.entry scope.old root.old root.new) }
 {
     if writing.options.define_components {
         nest_behind(writing.graph, writing.worlds, scope, root)
@@ -553,6 +557,7 @@ fn write_in(
     requires { IsNewScope scope.old }
     ensures begins { BeginsRoot writing.entry root.old root.new result }
     ensures nests { NestsThese writing.entry root.old root.new result }
+    ensures holds { IsToBegin writing.entry → OnOk result (HoldsAll writing.entry root.new) }
 {
     let Writing {
         graph,
@@ -572,6 +577,7 @@ fn write_in(
 pub(crate) fn write_root(writing: Writing<'_>, root: &mut Root) -> Result<(), WriteError>
     ensures begins { BeginsRoot writing.entry root.old root.new result }
     ensures nests { NestsThese writing.entry root.old root.new result }
+    ensures holds { IsToBegin writing.entry → OnOk result (HoldsAll writing.entry root.new) }
 {
     let mut scope = ImportScope::new(writing.graph.alloc());
     let written = write_in(writing, &mut scope, root);

@@ -23,6 +23,7 @@ use Rattle.wac_types_base.proofs.Replacing.{slice_get-set_same, slice_get-set_ot
 use Rattle.wac_types_base.proofs.Standing.{world_found}
 use Rattle.wac_types_base.proofs.Slots.{stands_typed_world}
 use Rattle.wac_types_base.proofs.Lists.{among_split}
+use Rattle.wac_types_base.proofs.Loops.{map-get}
 use Rattle.wac_types_fit.specs.Trees.{tree_in}
 use Rattle.wac_types_fit.proofs.Items.{Among-last, looked_in}
 use Rattle.wac_types_fit.proofs.ItemKinds.{kind_is}
@@ -42,14 +43,16 @@ use Rattle.wac_graph_scopes.specs.declared.scope.KnownTypes.{KnownTypes}
 use Rattle.wac_graph_scopes.specs.declared.scope.TypeScope.{TypeScope}
 use Rattle.wac_graph_scopes.specs.declared.items.ItemScope.{ItemScope}
 use Rattle.wac_graph_scopes.specs.declared.used.UsedIndex.{UsedIndex}
-use Rattle.wac_graph_scopes.specs.declared.used.UsedTypes.{UsedTypes}
+use Rattle.wac_graph_scopes.specs.Used.{Used, used_at, put_used}
+use Rattle.wac_graph_scopes.proofs.UsedNames.{used_among}
 use Rattle.wac_graph_scopes.specs.declared.imports.SortIndex.{SortIndex}
+use Rattle.wac_graph_scopes.specs.declared.imports.Importing.{Importing}
 use Rattle.wac_graph_scopes.specs.declared.imports.ImportScope.{ImportScope}
 use Rattle.wac_graph_scopes.specs.Scopes.{Extends, GoesOn, AreKnown, Exchanges}
 use Rattle.wac_types_base.specs.Parts.{exports_in}
 use Rattle.wac_graph_scopes.specs.Parts.{interface_in, exports_of, imports_of, world_exports_of, IsUsedKind, IsOfWorld}
-use Rattle.wac_graph_scopes.specs.Items.{IsItemScope, ItemsGo, GivesType, ExportsItem, IsTypeItem, IsUsedType, AreUsed, IsSorted, Describes, IsTreeOf, AreTreesOf, StatesComponent, described_as}
-use Rattle.wac_graph_scopes.specs.Imports.{NoneWritten, IsImportAt, ArePlaced, WritesWorld, WritesOn, HasAlias, DescribesIn, DescribesApart, ImportsItem, names_at, IsNewAt, BeginsWorld}
+use Rattle.wac_graph_scopes.specs.Items.{IsItemScope, ItemsGo, GivesType, ExportsItem, ExportsIndex, IsInstanceAt, IsTypeItem, IsUsedType, AreUsed, IsSorted, Describes, IsTreeOf, AreTreesOf, StatesComponent, described_as}
+use Rattle.wac_graph_scopes.specs.Imports.{NoneWritten, IsImportAt, ArePlaced, WritesWorld, WritesOn, IsSource, HasAlias, HasExported, DescribesIn, DescribesApart, ImportsItem, names_at, IsNewAt, BeginsWorld}
 use Rattle.wac_graph_scopes.proofs.ScopeLaws.{Extends-refl, Extends-trans, Extends-one, all_known_kept}
 use Rattle.wac_graph_scopes.proofs.ItemLaws.{used_on, item_exchanged, ItemsGo-refl}
 use Rattle.wac_graph_scopes.proofs.UsedLaws.{plain_item}
@@ -73,7 +76,14 @@ export_tree c acyclic id n t e =
     let at = ap (λ (o : Option Interface). value_at (exports_in o) n) (sym x.1) ∙ e.1 in
     ap (export_named n) is ∙ same_look n (unfolded.fields_in c x.0.exports) ∙ looked_in c x.0.exports n ∙ ap (option_map (tree_in c)) at ∙ ap Some (sym e.2)
 
+-- it is a source of each type that it exports
+pub instance_source : (c : Collection) → IsAcyclic c → (id : InterfaceId) (w : Worlds) (ss : List Scope) (n : Name) (item : ItemKind) (k : ℕ) → IsTreeOf c (exports_of c id) n (tree_in c item) → IsInstanceAt w ss (tree_in c (ItemKind.Instance id)) k → IsSource w ss n (tree_in c item) k
+instance_source c acyclic id w ss n item k e h = (tree_in c (ItemKind.Instance id), h, export_tree c acyclic id n (tree_in c item) e)
+
 -- ---- what stands on
+
+pub source_on : (w : Worlds) (g h : Scope) (outer : List Scope) (n : Name) (t : Tree) (k : ℕ) → Extends g h → IsSource w (g ∷ outer) n t k → IsSource w (h ∷ outer) n t k
+source_on w g h outer n t k e x = (x.0, (x.1.0, e.indexes sort.Instance k x.1.0 x.1.1, x.1.2), x.2)
 
 pub import_on : (c : Collection) (g h : Scope) (outer : List Scope) (n : Name) (k : ItemKind) (p : SortIndex) → Extends g h → IsImportAt c (g ∷ outer) n k p → IsImportAt c (h ∷ outer) n k p
 import_on c g h outer n k p x a = record { sort = a.sort; means = x.indexes p.sort p.index (Item n p.sort (tree_in c k)) a.means }
@@ -87,6 +97,14 @@ GoesOn-refl i = record { extends = Extends-refl i.here; imports = refl; exports 
 pub items_on : (w : Worlds) (c : Collection) (outer : List Scope) (i j k : Inside) (u : ItemScope) → GoesOn i j → ItemsGo w c outer j k u → GoesOn i k
 items_on w c outer i j k u x g = record { extends = Extends-trans i.here j.here k.here x.extends g.extends; imports = g.imports ∙ x.imports; exports = g.exports ∙ x.exports }
 
+-- a name stands at one place
+pub one_place : (ns : List Name) (j k : ℕ) (n : Name) → AreDistinct ns → slice_get ns j ≡ Some n → slice_get ns k ≡ Some n → j ≡ k
+one_place [] j k n d e f = absurd (cc e)
+one_place (m ∷ ns) zero zero n d e f = refl
+one_place (m ∷ ns) zero (suc k) n d e f = let same : m ≡ n = cc e in absurd (d.0 (subst (λ (x : Name). Among x ns) (sym same) (among-get ns k n f)))
+one_place (m ∷ ns) (suc j) zero n d e f = let same : m ≡ n = cc f in absurd (d.0 (subst (λ (x : Name). Among x ns) (sym same) (among-get ns j n e)))
+one_place (m ∷ ns) (suc j) (suc k) n d e f = let same = one_place ns j k n d.1 e f in omega (arith, same)
+
 module _ (w : Worlds) (c : Collection) (outer : List Scope) (world : WorldId) (imported exported : List Name) where
   -- a world is written on from where it is
   pub written : (s : ImportScope) (h : WritesWorld w c outer world s imported exported) → WritesOn w c outer world h.writing.inside s imported exported
@@ -97,26 +115,30 @@ module _ (w : Worlds) (c : Collection) (outer : List Scope) (world : WorldId) (i
   unfolding writes_on
   world_goes s u h j g = record {
     writing = writes_on w c outer (imports_of c world) (world_exports_of c world) imported exported s.scope u h.writing j g;
-    used = used_on w c h.writing.inside.here j.here outer 0 s.used.all.items g.extends h.used;
+    used = used_on w c h.writing.inside.here j.here outer 0 s.used g.extends h.used;
     placed = placed_on w c h.writing.inside.here j.here outer (imports_of c world) s.places.items g.extends h.placed;
+    many = h.many;
+    have = h.have;
   }
 
   -- and one more used type is known
-  pub world_adds : (i : Inside) (s : ImportScope) (u : ItemScope) (v : UsedTypes) (h : WritesOn w c outer world i s imported exported) (j : Inside) (item : ItemKind) (k : ℕ) → ItemsGo w c outer h.goes.writing.inside j u
-      → v.all.items ≡ s.used.all.items ++ record { item = item; index = k } ∷ [] → Stands c item → IsUsedKind item → IsTypeItem w (j.here ∷ outer) 0 (tree_in c item) k
+  pub world_adds : (i : Inside) (s : ImportScope) (u : ItemScope) (v : Used) (a n : Name) (h : WritesOn w c outer world i s imported exported) (j : Inside) (item : ItemKind) (k : ℕ) → ItemsGo w c outer h.goes.writing.inside j u
+      → v ≡ put_used s.used a n (record { item = item; index = k }) → Stands c item → IsUsedKind item → IsTypeItem w (j.here ∷ outer) 0 (tree_in c item) k
       → HasAlias w c outer world i (record s { scope = u; used = v }) imported exported (tree_in c item) (Some k)
   unfolding writes_on world_goes
-  world_adds i s u v h j item k g e stands kind at =
+  world_adds i s u v a n h j item k g e stands kind at =
       let b = world_goes s u h.goes j g in
       let one : UsedIndex = record { item = item; index = k } in
       record {
         goes = record {
           writing = b.writing;
-          used = λ x m. elim (Among-last s.used.all.items one x (subst (λ (l : List UsedIndex). Among x l) e m)) [
-            | inl a ↦ b.used x a
+          used = λ y m x f. elim (used_among s.used a n one y m x (subst (λ (l : Used). used_at l y m ≡ Some x) e f)) [
+            | inl old ↦ b.used y m x old
             | inr same ↦ subst (λ (y : UsedIndex). IsUsedType w c (j.here ∷ outer) 0 y) (sym same) (record { stands = stands; kind = kind; index = at })
           ];
           placed = b.placed;
+          many = b.many;
+          have = b.have;
         };
         on = items_on w c outer i h.goes.writing.inside j u h.on g;
         index = at;
@@ -162,13 +184,20 @@ module _ (w : Worlds) (c : Collection) (outer : List Scope) (world : WorldId) (i
   unfolding writes_more
   world_exports s u h n t more is a new e = record {
     writing = writes_more w c outer (imports_of c world) (world_exports_of c world) imported exported s.scope u h.writing n t more is a new e;
-    used = used_on w c h.writing.inside.here a.after.here outer 0 s.used.all.items a.extends h.used;
+    used = used_on w c h.writing.inside.here a.after.here outer 0 s.used a.extends h.used;
     placed = placed_on w c h.writing.inside.here a.after.here outer (imports_of c world) s.places.items a.extends h.placed;
+    many = h.many;
+    have = h.have;
   }
+
+  pub world_exports_indexed : (s : ImportScope) (u : ItemScope) (h : WritesWorld w c outer world s imported exported) (n : Name) (kind : ItemKind) (more : List Name) (k : ℕ) → IsTreeOf c (world_exports_of c world) n (tree_in c kind)
+      → ExportsIndex w c outer h.writing.inside n kind u k → (Among n exported → ⊥) → more ≡ put_name exported n → HasExported w c outer world n kind (record s { scope = u }) imported more k
+  unfolding writes_more world_exports
+  world_exports_indexed s u h n kind more k is a new e = record { goes = world_exports s u h n (tree_in c kind) more is a.exported new e; means = a.means }
 
   -- one more import, which is written at its place
   pub world_imports : (s t : ImportScope) (h : WritesWorld w c outer world s imported exported) (n : Name) (kind : ItemKind) (d : Description) (at : ℕ) (p : SortIndex) → slice_get (imports_of c world) at ≡ Some (n, kind)
-      → AreDistinct (names_of (imports_of c world)) → IsSorted kind d → ImportsItem w c outer h.writing.inside n (tree_in c kind) d t.scope p → t.used.all.items ≡ s.used.all.items → t.places.items ≡ slice_set s.places.items at (Some p)
+      → AreDistinct (names_of (imports_of c world)) → IsSorted kind d → ImportsItem w c outer h.writing.inside n (tree_in c kind) d t.scope p → t.used ≡ s.used → t.places.items ≡ slice_set s.places.items at (Some p)
       → (Among n imported → ⊥) → WritesWorld w c outer world t (imported ++ n ∷ []) exported
   world_imports s t h n kind d at p there distinct sorted a us ps new =
       let i = h.writing.inside in
@@ -189,7 +218,7 @@ module _ (w : Worlds) (c : Collection) (outer : List Scope) (world : WorldId) (i
           exports_once = k.exports_once;
           export_trees = subst (AreTreesOf c (world_exports_of c world)) (sym a.exports) k.export_trees;
         };
-        used = subst (AreUsed w c (a.after.here ∷ outer) 0) (sym us) (used_on w c i.here a.after.here outer 0 s.used.all.items a.extends h.used);
+        used = subst (AreUsed w c (a.after.here ∷ outer) 0) (sym us) (used_on w c i.here a.after.here outer 0 s.used a.extends h.used);
         placed = λ x m l q e f. elim (apart x at (eqb x at) refl) [
           | inl same ↦
               let lt = slice_get_within (slice_set s.places.items at (Some p)) x (Some q) (ap (λ l. slice_get l x) (sym ps) ∙ f) in
@@ -202,15 +231,32 @@ module _ (w : Worlds) (c : Collection) (outer : List Scope) (world : WorldId) (i
               (subst (λ (y : Name × ItemKind). IsImportAt c (a.after.here ∷ outer) y.0 y.1 p) (sym is_k) there_now)
           | inr other ↦ import_on c i.here a.after.here outer m l q a.extends (h.placed x m l q e (sym (slice_get-set_other s.places.items at x (Some p) other) ∙ ap (λ l. slice_get l x) (sym ps) ∙ f))
         ];
+        many = ap length ps ∙ length-set s.places.items at (Some p) ∙ h.many;
+        have = λ x m e among. elim (apart x at (eqb x at) refl) [
+          | inl same ↦
+              let lt = slice_get_within is at (n, kind) there in
+              let within : at < length s.places.items = omega (arith, lt, h.many) in
+              (p, ap (λ l. slice_get l x) ps ∙ ap (slice_get (slice_set s.places.items at (Some p))) same ∙ slice_get-set_same s.places.items at (Some p) within)
+          | inr other ↦
+              let own : Among m imported = elim (Among-last imported n m among) [
+                | inl before ↦ before
+                | inr q ↦ absurd (other (one_place (names_of is) x at m distinct e (map-get (λ (y : Name × ItemKind). y.0) is at (n, kind) there ∙ ap Some (sym q))))
+              ] in
+              let before = h.have x m e own in
+              (before.0, ap (λ l. slice_get l x) ps ∙ slice_get-set_other s.places.items at x (Some p) other ∙ before.1)
+        ];
       }
 
 -- ---- beginning
 
-pub world_begun : (s : ImportScope) → ((w : Worlds) (c : Collection) (outer : List Scope) → IsItemScope w c outer nothing_inside s.scope) → s.used.all.items ≡ [] → NoneWritten s.places.items → BeginsWorld s
-world_begun s h us ps w c outer world = record {
-  writing = record { inside = nothing_inside; stands = h w c outer; imports = refl; imports_once = tt; import_trees = λ n t m. absurd m; exports = refl; exports_once = tt; export_trees = λ n t m. absurd m };
-  used = λ u m. absurd (subst (λ (l : List UsedIndex). Among u l) us m);
+pub world_begun : (a : Importing) (s : ImportScope) → ((w : Worlds) (c : Collection) (outer : List Scope) → IsItemScope w c outer nothing_inside s.scope) → s.used ≡ [] → NoneWritten s.places.items
+    → length s.places.items ≡ length (imports_of a.types.now a.world) → BeginsWorld a s
+world_begun a s h us ps many w outer = record {
+  writing = record { inside = nothing_inside; stands = h w a.types.now outer; imports = refl; imports_once = tt; import_trees = λ n t m. absurd m; exports = refl; exports_once = tt; export_trees = λ n t m. absurd m };
+  used = λ j n u m. absurd (cc (subst (λ (l : Used). used_at l j n ≡ Some u) us m));
   placed = λ at n k p e f. absurd (ps at p f);
+  many = many;
+  have = λ at n e among. absurd among;
 }
 
 pub none_pushed : (ps : List (Option SortIndex)) → NoneWritten ps → NoneWritten (ps ++ None ∷ [])
@@ -262,14 +308,6 @@ place_named ns (l ∷ ks) k n (inl same) e =
     let here : slice_get ns l ≡ Some n = ap (slice_get ns) (sym same) ∙ e in
     Among-left n (option_to_list (slice_get ns l)) (names_at ns ks) (subst (λ (o : Option Name). Among n (option_to_list o)) (sym here) (inl refl))
 place_named ns (l ∷ ks) k n (inr m) e = Among-right n (option_to_list (slice_get ns l)) (names_at ns ks) (place_named ns ks k n m e)
-
--- a name stands at one place
-pub one_place : (ns : List Name) (j k : ℕ) (n : Name) → AreDistinct ns → slice_get ns j ≡ Some n → slice_get ns k ≡ Some n → j ≡ k
-one_place [] j k n d e f = absurd (cc e)
-one_place (m ∷ ns) zero zero n d e f = refl
-one_place (m ∷ ns) zero (suc k) n d e f = let same : m ≡ n = cc e in absurd (d.0 (subst (λ (x : Name). Among x ns) (sym same) (among-get ns k n f)))
-one_place (m ∷ ns) (suc j) zero n d e f = let same : m ≡ n = cc f in absurd (d.0 (subst (λ (x : Name). Among x ns) (sym same) (among-get ns j n e)))
-one_place (m ∷ ns) (suc j) (suc k) n d e f = let same = one_place ns j k n d.1 e f in omega (arith, same)
 
 pub place_of_name : (ns : List Name) (n : Name) → Among n ns → (k : ℕ) × (slice_get ns k ≡ Some n)
 place_of_name [] n m = absurd m

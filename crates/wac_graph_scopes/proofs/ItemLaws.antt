@@ -5,9 +5,9 @@ use Rattle.std.specs.Global.{Global}
 use Rattle.std.proofs.lemmas.List.{length_push}
 use Rattle.std.proofs.lemmas.Result.{IfOk-weaker}
 use Rattle.wac_types_base.specs.Record.{Collection}
-use Rattle.wac_types_base.specs.Graph.{Among}
 use Rattle.wac_types_base.specs.Entries.{Name}
 use Rattle.wac_types_base.specs.Tree.{Tree}
+use Rattle.wac_types_base.specs.declared.item.ItemKind.{ItemKind}
 use Rattle.wac_types_fit.specs.Trees.{tree_in}
 use Rattle.wac_graph_bytes.specs.declared.value.Sort.{Sort}
 use Rattle.wac_graph_bytes.specs.declared.value.Sort.TheVariants as sort
@@ -23,9 +23,9 @@ use Rattle.wac_graph_bytes.proofs.Steps.{bind_some, core_kept, get_kept, get_las
 use Rattle.wac_graph_scopes.specs.declared.scope.KnownTypes.{KnownTypes}
 use Rattle.wac_graph_scopes.specs.declared.scope.TypeScope.{TypeScope}
 use Rattle.wac_graph_scopes.specs.declared.items.ItemScope.{ItemScope}
-use Rattle.wac_graph_scopes.specs.declared.used.UsedIndex.{UsedIndex}
 use Rattle.wac_graph_scopes.specs.Scopes.{Extends, AreKnown, IsScope, Exchanges, Goes}
-use Rattle.wac_graph_scopes.specs.Items.{IsItemScope, ItemsGo, ExportsItem, IsTypeItem, AreUsed, AreAround, HasType, adds_core, HasCore, count_of, with_count, HasItem, GivesItem, IsInstanceAt}
+use Rattle.wac_graph_scopes.specs.Used.{Used, used_at}
+use Rattle.wac_graph_scopes.specs.Items.{IsItemScope, ItemsGo, ExportsItem, ExportsIndex, IsTypeItem, AreUsed, AreAround, HasType, adds_core, HasCore, count_of, with_count, HasItem, GivesItem, IsInstanceAt}
 use Rattle.wac_graph_scopes.proofs.ScopeLaws.{Extends-refl, Extends-trans, Extends-one, type_added, scope_at}
 
 -- ---- what stands on
@@ -45,13 +45,13 @@ item_on w g h outer depth t k x a =
     let b = bind_some (found_at (g ∷ outer) depth sort.Ty k) (type_tree w) a.there a.reads in
     record { there = a.there; item = a.item; reads = ap (λ (o : Option Meaning). o >>= type_tree w) (found_on g h outer depth k b.0 x b.1) ∙ b.2 }
 
-pub used_on : (w : Worlds) (c : Collection) (g h : Scope) (outer : List Scope) (depth : ℕ) (us : List UsedIndex) → Extends g h → AreUsed w c (g ∷ outer) depth us → AreUsed w c (h ∷ outer) depth us
-used_on w c g h outer depth us x a u m = let b = a u m in record { stands = b.stands; kind = b.kind; index = item_on w g h outer depth _ u.index x b.index }
+pub used_on : (w : Worlds) (c : Collection) (g h : Scope) (outer : List Scope) (depth : ℕ) (us : Used) → Extends g h → AreUsed w c (g ∷ outer) depth us → AreUsed w c (h ∷ outer) depth us
+used_on w c g h outer depth us x a j n u m = let b = a j n u m in record { stands = b.stands; kind = b.kind; index = item_on w g h outer depth _ u.index x b.index }
 
 -- one scope deeper
-pub used_deeper : (w : Worlds) (c : Collection) (ss : List Scope) (depth next : ℕ) (us vs : List UsedIndex) → next ≡ depth + 1 → vs ≡ us → AreUsed w c ss depth us → AreAround w c ss next vs
-used_deeper w c ss depth next us vs e f a here u m =
-    let b = a u (subst (λ (l : List UsedIndex). Among u l) f m) in
+pub used_deeper : (w : Worlds) (c : Collection) (ss : List Scope) (depth next : ℕ) (us vs : Used) → next ≡ depth + 1 → vs ≡ us → AreUsed w c ss depth us → AreAround w c ss next vs
+used_deeper w c ss depth next us vs e f a here j n u m =
+    let b = a j n u (subst (λ (l : Used). used_at l j n ≡ Some u) f m) in
     let i = b.index in
     let deep : next ≡ suc depth = omega (arith, e) in
     record { stands = b.stands; kind = b.kind; index = subst (λ (n : ℕ). IsTypeItem w (here ∷ ss) n (tree_in c u.item) u.index) (sym deep) (record { there = i.there; item = i.item; reads = i.reads }) }
@@ -87,6 +87,10 @@ module _ (w : Worlds) (c : Collection) (outer : List Scope) where
     exports = b.exports ∙ ap (λ (l : List (Name × Tree)). l ++ (n, t) ∷ []) a.exports;
   }
 
+  pub index_follows : (i j : Inside) (n : Name) (kind : ItemKind) (s u : ItemScope) (k : ℕ) → ItemsGo w c outer i j s → ExportsIndex w c outer j n kind u k → ExportsIndex w c outer i n kind u k
+  unfolding export_follows
+  index_follows i j n kind s u k a b = record { exported = export_follows i j n (tree_in c kind) s u a b.exported; means = b.means }
+
   -- types alone are written
   pub types_go : (i j : Inside) (s : ItemScope) (t : TypeScope) → IsItemScope w c outer i s → Goes w c outer i j t → ItemsGo w c outer i j (record s { types = t })
   types_go i j s t h g = record {
@@ -110,12 +114,12 @@ module _ (w : Worlds) (c : Collection) (outer : List Scope) where
   -- ---- one more declaration
 
   pub has_type : (i : Inside) (m : Meaning) (s : ItemScope) (t : TypeScope) (d : Declaration) → IsItemScope w c outer i s → declared w outer i (before d End) ≡ Some (adds_inside sort.Ty m i)
-      → t.declarations.items ≡ s.types.declarations.items ++ d ∷ [] → t.types ≡ s.types.types + 1 → t.known.all.items ≡ s.types.known.all.items → t.resources ≡ s.types.resources
+      → t.declarations.items ≡ s.types.declarations.items ++ d ∷ [] → t.types ≡ s.types.types + 1 → t.known ≡ s.types.known → t.resources ≡ s.types.resources
       → HasType w c outer i m (record s { types = t }) s.types.types
   has_type i m s t d h e ds ts ks rs = record { goes = types_go i (adds_inside sort.Ty m i) s t h (type_added w c outer i m s.types t d h.written e ds ts ks rs); index = h.written.types }
 
   pub has_core : (i : Inside) (x : Tree) (s : ItemScope) (t : TypeScope) (d : Declaration) (n : ℕ) → IsItemScope w c outer i s → declared w outer i (before d End) ≡ Some (adds_core x i)
-      → t.declarations.items ≡ s.types.declarations.items ++ d ∷ [] → t.types ≡ s.types.types → t.known.all.items ≡ s.types.known.all.items → t.resources ≡ s.types.resources → n ≡ s.cores + 1
+      → t.declarations.items ≡ s.types.declarations.items ++ d ∷ [] → t.types ≡ s.types.types → t.known ≡ s.types.known → t.resources ≡ s.types.resources → n ≡ s.cores + 1
       → HasCore w c outer i x (record s { types = t; cores = n }) s.cores
   has_core i x s t d n h e ds ts ks rs ns = record {
     goes = record {
@@ -135,7 +139,7 @@ module _ (w : Worlds) (c : Collection) (outer : List Scope) where
   }
 
   module _ (i j : Inside) (m : Meaning) (s : ItemScope) (t : TypeScope) (e : Declaration) (n : ℕ) (h : IsItemScope w c outer i s) (reads : declared w outer i (before e End) ≡ Some j)
-      (ds : t.declarations.items ≡ s.types.declarations.items ++ e ∷ []) (ts : t.types ≡ s.types.types) (ks : t.known.all.items ≡ s.types.known.all.items) (rs : t.resources ≡ s.types.resources) where
+      (ds : t.declarations.items ≡ s.types.declarations.items ++ e ∷ []) (ts : t.types ≡ s.types.types) (ks : t.known ≡ s.types.known) (rs : t.resources ≡ s.types.resources) where
     extended : (d : Sort) → j.here ≡ with_one d m i.here → Extends i.here j.here
     extended d here = subst (λ (x : Scope). Extends i.here x) (sym here) (Extends-one d m i.here)
 
@@ -216,7 +220,7 @@ module _ (w : Worlds) (c : Collection) (outer : List Scope) where
   count_same (desc.Instance k) s t e = refl
 
   pub item_counted : (i j : Inside) (m : Meaning) (s u : ItemScope) (t : TypeScope) (e : Declaration) (d : Description) (n k : ℕ) → IsItemScope w c outer i s → declared w outer i (before e End) ≡ Some j
-      → t.declarations.items ≡ s.types.declarations.items ++ e ∷ [] → t.types ≡ s.types.types → t.known.all.items ≡ s.types.known.all.items → t.resources ≡ s.types.resources
+      → t.declarations.items ≡ s.types.declarations.items ++ e ∷ [] → t.types ≡ s.types.types → t.known ≡ s.types.known → t.resources ≡ s.types.resources
       → j.here ≡ with_one (description_sort d) m i.here → k ≡ count_of d (record s { types = t }) → n ≡ k + 1 → u ≡ with_count d n (record s { types = t }) → HasItem w c outer i j d u k
   item_counted i j m s u t e d n k h reads ds ts ks rs here ke ne ue =
       let same : k ≡ count_of d s = ke ∙ count_same d s t ts in

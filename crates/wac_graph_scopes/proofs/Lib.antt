@@ -1,4 +1,6 @@
 pub mod ScopeLaws
+pub mod PrintLaws
+pub mod PlaceLaws
 pub mod CountLaws
 pub mod FormLaws
 pub mod ValueLaws
@@ -14,7 +16,9 @@ pub mod RefusedLaws
 pub mod FieldLaws
 pub mod ItemLaws
 pub mod PartLaws
+pub mod UsedNames
 pub mod UsedLaws
 pub mod OrderLaws
+pub mod FoundLaws
 pub mod WritingLaws
 pub mod ImportLaws

@@ -10,6 +10,7 @@ use Rattle.wac_types_base.specs.Graph.{Among}
 use Rattle.wac_types_base.specs.Entries.{AreDistinct}
 use Rattle.wac_types_base.proofs.Adding.{Among-left, Among-right}
 use Rattle.wac_types_base.proofs.Lists.{among_split}
+use Rattle.wac_graph_bytes.proofs.Steps.{get_kept, get_last}
 use Rattle.wac_graph_scopes.specs.declared.imports.Importing.{Importing}
 use Rattle.wac_graph_scopes.specs.declared.order.Turn.{Turn}
 use Rattle.wac_graph_scopes.specs.Imports.{all_imports}
@@ -163,3 +164,23 @@ sources_first a ts ks len turns first at n k e source =
 pub no_interface : {T : Type 0} {P : Type 0} (o : Option T) → false ≡ is_some o → IfNone o P → P
 no_interface None e h = h
 no_interface (Some x) e h = absurd (cc e)
+
+-- ---- one turn
+
+pub last_pushed : {X : Type 0} (xs : List X) (x : X) (count : ℕ) → length xs ≡ count → ((k : ℕ) → k < count → slice_get xs k ≡ Some x) → (k : ℕ) → k < count + 1 → slice_get (xs ++ x ∷ []) k ≡ Some x
+last_pushed xs x count len h k lt = elim (apart k count (eqb k count) refl) [
+  | inl same ↦ get_last xs x k (same ∙ sym len)
+  | inr other ↦ let less : k < count = omega (arith, lt, other) in get_kept xs x x k (h k less)
+]
+
+pub last_order : (turns : List Turn) (old new : List Bool) (ordered : List ℕ) (count : ℕ) → length turns ≡ count → length old ≡ length turns → ((k : ℕ) → IsBegun old k → ⊥) → Puts old new [] ordered
+    → ((k : ℕ) → k < count → slice_get turns k ≡ Some Turn.Others) → ((k : ℕ) → slice_get turns k ≡ Some Turn.Others → k < length old → IsBegun new k) → IsOrder count [] ordered
+last_order turns old new ordered count is len none p last done = record {
+  distinct = subst AreDistinct (sym p.behind) p.distinct;
+  all = λ k lt.
+      let within : k < length old = omega (arith, lt, is, len) in
+      let begun = done k (last k lt) within in
+      let more : Among k p.more = elim (p.only k begun) [ inl x ↦ absurd (none k x) | inr m ↦ m ] in
+      subst (λ (l : List ℕ). Among k l) (sym p.behind) more;
+  within = λ k m. omega (arith, slice_get_within new k true (p.done k (subst (λ (l : List ℕ). Among k l) p.behind m)), p.len, len, is);
+}

@@ -10,7 +10,7 @@ use Rattle.wac_types_base.specs.Record.{Collection}
 use Rattle.wac_types_base.specs.Entries.{Name, value_at, names_of}
 use Rattle.wac_types_base.specs.Collection.{Entry, Stands, IsAcyclic, item_node, interface_entry, world_entry}
 use Rattle.wac_types_base.proofs.Replacing.{number_same}
-use Rattle.wac_types_fit.proofs.Items.{value_at-among, exports_inside, world_imports_inside}
+use Rattle.wac_types_fit.proofs.Items.{value_at-among, exports_inside, world_imports_inside, world_exports_inside}
 use Rattle.wac_types_base.specs.Parts.{identifier_in, uses_in, exports_in, uses_in_world, imports_in_world, exports_in_world}
 use Rattle.wac_graph_scopes.specs.Parts.{at_own, interface_in, world_in, exports_of, uses_of, world_uses_of, imports_of, world_exports_of}
 
@@ -79,6 +79,9 @@ module _ (c : Collection) (id : WorldId) where
 
   pub world_exports_missing : (Stands c (ItemKind.Component id) → ⊥) → world_exports_of c id ≡ []
   world_exports_missing h = ap exports_in_world (world_missing h)
+
+  pub world_export_stands : IsAcyclic c → (x : World) → Stands c (ItemKind.Component id) → slice_get c.worlds id.index ≡ Some x → id.collection ≡ c.number → (n : Name) (k : ItemKind) → value_at x.exports n ≡ Some k → Stands c k
+  world_export_stands a x s e own n k at = (world_exports_inside c a id x s e own n k (value_at-among x.exports n k at)).0
 
 pub name_at : {T : Type 0} (es : List (Name × T)) (i : ℕ) (n : Name) (v : T) → slice_get es i ≡ Some (n, v) → slice_get (names_of es) i ≡ Some n
 name_at [] i n v e = absurd (cc e)

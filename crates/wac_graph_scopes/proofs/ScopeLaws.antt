@@ -29,6 +29,7 @@ use Rattle.wac_graph_scopes.specs.declared.scope.KnownType.{KnownType}
 use Rattle.wac_graph_scopes.specs.declared.scope.KnownTypes.{KnownTypes}
 use Rattle.wac_graph_scopes.specs.declared.scope.TypeScope.{TypeScope}
 use Rattle.wac_graph_scopes.specs.Scopes.{Extends, OnlyTypes, IsKnown, AreKnown, IsResource, IsScope, Exchanges, Goes, AnswersType, PlaceReads, PlacesRead, IsTypeDeclaration, IsEntryIn}
+use Rattle.wac_graph_scopes.specs.Known.{ArePlaces}
 use Rattle.wac_types_fit.proofs.Items.{Among-last}
 
 -- ---- what stands on
@@ -94,7 +95,7 @@ pub known_kept : (w : Worlds) (c : Collection) (h j : Scope) (outer : List Scope
 known_kept w c h j outer k x e = record { reads = value_kept w h j outer (Index k.index) _ x e.reads }
 
 pub all_known_kept : (w : Worlds) (c : Collection) (h j : Scope) (outer : List Scope) (ks : KnownTypes) → Extends h j → AreKnown w (h ∷ outer) c ks → AreKnown w (j ∷ outer) c ks
-all_known_kept w c h j outer ks x a k m = known_kept w c h j outer k x (a k m)
+all_known_kept w c h j outer ks x a = record { each = λ k m. known_kept w c h j outer k x (a.each k m); places = a.places }
 
 pub resource_kept : (w : Worlds) (h j : Scope) (outer : List Scope) (n : Name) (k : ℕ) → Extends h j → IsResource w (h ∷ outer) n k → IsResource w (j ∷ outer) n k
 resource_kept w h j outer n k x e = record { reads = type_kept w h j outer k _ x e.reads }
@@ -116,7 +117,7 @@ module _ (w : Worlds) (c : Collection) (outer : List Scope) where
 
   -- one more type
   pub type_added : (i : Inside) (m : Meaning) (s u : TypeScope) (d : Declaration) → IsScope w c outer i s → declared w outer i (before d End) ≡ Some (adds_inside sort.Ty m i)
-      → u.declarations.items ≡ s.declarations.items ++ d ∷ [] → u.types ≡ s.types + 1 → u.known.all.items ≡ s.known.all.items → u.resources ≡ s.resources
+      → u.declarations.items ≡ s.declarations.items ++ d ∷ [] → u.types ≡ s.types + 1 → u.known ≡ s.known → u.resources ≡ s.resources
       → Goes w c outer i (adds_inside sort.Ty m i) u
   type_added i m s u d h one ds ts ks rs =
       let x = Extends-one sort.Ty m i.here in
@@ -124,7 +125,7 @@ module _ (w : Worlds) (c : Collection) (outer : List Scope) where
         stands = record {
           reads = ap (λ (l : List Declaration). declared w outer nothing_inside (declarations_of l)) ds ∙ one_more w outer nothing_inside i (adds_inside sort.Ty m i) s.declarations.items d h.reads one;
           types = omega (arith, ts, h.types, length_push i.here.types m);
-          known = λ k a. known_kept w c i.here (with_one sort.Ty m i.here) outer k x (h.known k (subst (λ (l : List KnownType). Among k l) ks a));
+          known = subst (λ (k : KnownTypes). AreKnown w (with_one sort.Ty m i.here ∷ outer) c k) (sym ks) (all_known_kept w c i.here (with_one sort.Ty m i.here) outer s.known x h.known);
           resources = λ n k a. resource_kept w i.here (with_one sort.Ty m i.here) outer n k x (h.resources n k (subst (λ (l : List (Name × ℕ)). value_at l n ≡ Some k) rs a));
         };
         extends = x;
@@ -142,7 +143,7 @@ module _ (w : Worlds) (c : Collection) (outer : List Scope) where
 
   -- a type without declarations
   pub type_defined : (i : Inside) (t : Tree) (s u : TypeScope) (ty : CodeType) → IsScope w c outer i s → defined w (i.here ∷ outer) (defined_view ty) ≡ Some t
-      → u.declarations.items ≡ s.declarations.items ++ Defined ty ∷ [] → u.types ≡ s.types + 1 → u.known.all.items ≡ s.known.all.items → u.resources ≡ s.resources
+      → u.declarations.items ≡ s.declarations.items ++ Defined ty ∷ [] → u.types ≡ s.types + 1 → u.known ≡ s.known → u.resources ≡ s.resources
       → AnswersType w c outer i t u s.types
   type_defined i t s u ty h e ds ts ks rs = record {
     after = adds_inside sort.Ty (Known t) i;
@@ -186,16 +187,16 @@ further xs x y z (inl b) = inl (inr b)
 further xs x y z (inr e) = inr e
 
 pub scope_remembers : (w : Worlds) (c : Collection) (outer : List Scope) (i : Inside) (s u : TypeScope) (k : KnownType) → IsScope w c outer i s → IsKnown w (i.here ∷ outer) c k
-    → u.declarations.items ≡ s.declarations.items → u.types ≡ s.types → u.known.all.items ≡ s.known.all.items ++ k ∷ [] → u.resources ≡ s.resources → IsScope w c outer i u
-scope_remembers w c outer i s u k h true_of d t ks rs = record {
+    → u.declarations.items ≡ s.declarations.items → u.types ≡ s.types → u.known.all.items ≡ s.known.all.items ++ k ∷ [] → ArePlaces c u.known → u.resources ≡ s.resources → IsScope w c outer i u
+scope_remembers w c outer i s u k h true_of d t ks places rs = record {
   reads = ap (λ (l : List Declaration). declared w outer nothing_inside (declarations_of l)) d ∙ h.reads;
   types = t ∙ h.types;
-  known = λ x a. by x (Among-last s.known.all.items k x (subst (λ (l : List KnownType). Among x l) ks a));
+  known = record { each = λ x a. by x (Among-last s.known.all.items k x (subst (λ (l : List KnownType). Among x l) ks a)); places = places };
   resources = λ n k a. h.resources n k (subst (λ (l : List (Name × ℕ)). value_at l n ≡ Some k) rs a);
 }
   where
     by : (x : KnownType) → Among x s.known.all.items ⊎ (x ≡ k) → IsKnown w (i.here ∷ outer) c x
-    by x (inl a) = h.known x a
+    by x (inl a) = h.known.each x a
     by x (inr e) = subst (λ (y : KnownType). IsKnown w (i.here ∷ outer) c y) (sym e) true_of
 
 -- what is known of one id is known of an equal one
@@ -209,24 +210,18 @@ scope_exchanged s ks here there e f w c d outer i h a = (
   subst (λ (ls : KnownTypes). AreKnown w (i.here ∷ outer) c ls) (sym f) h.known,
 )
 
--- beside declarations, counters, known types and resources nothing matters
-pub scope_same : (w : Worlds) (c : Collection) (outer : List Scope) (i : Inside) (s u : TypeScope) → IsScope w c outer i s
-    → u.declarations.items ≡ s.declarations.items → u.types ≡ s.types → u.known.all.items ≡ s.known.all.items → u.resources ≡ s.resources → IsScope w c outer i u
-scope_same w c outer i s u h ds t ks rs = record {
-  reads = ap (λ (l : List Declaration). declared w outer nothing_inside (declarations_of l)) ds ∙ h.reads;
-  types = t ∙ h.types;
-  known = λ x a. h.known x (subst (λ (l : List KnownType). Among x l) ks a);
-  resources = λ n k a. h.resources n k (subst (λ (l : List (Name × ℕ)). value_at l n ≡ Some k) rs a);
-}
+-- a scope of which these types are known
+pub scope_known : (w : Worlds) (c : Collection) (outer : List Scope) (i : Inside) (s : TypeScope) (ks : KnownTypes) → IsScope w c outer i s → AreKnown w (i.here ∷ outer) c ks → IsScope w c outer i (record s { known = ks })
+scope_known w c outer i s ks h a = record { reads = h.reads; types = h.types; known = a; resources = h.resources }
 
 -- ---- one more declaration of any kind
 
 pub scope_at : (w : Worlds) (c : Collection) (outer : List Scope) (i j : Inside) (s u : TypeScope) (d : Declaration) → IsScope w c outer i s → declared w outer i (before d End) ≡ Some j → Extends i.here j.here
-    → u.declarations.items ≡ s.declarations.items ++ d ∷ [] → u.types ≡ length j.here.types → u.known.all.items ≡ s.known.all.items → u.resources ≡ s.resources → IsScope w c outer j u
+    → u.declarations.items ≡ s.declarations.items ++ d ∷ [] → u.types ≡ length j.here.types → u.known ≡ s.known → u.resources ≡ s.resources → IsScope w c outer j u
 scope_at w c outer i j s u d h one x ds ts ks rs = record {
   reads = ap (λ (l : List Declaration). declared w outer nothing_inside (declarations_of l)) ds ∙ one_more w outer nothing_inside i j s.declarations.items d h.reads one;
   types = ts;
-  known = λ k a. known_kept w c i.here j.here outer k x (h.known k (subst (λ (l : List KnownType). Among k l) ks a));
+  known = subst (λ (k : KnownTypes). AreKnown w (j.here ∷ outer) c k) (sym ks) (all_known_kept w c i.here j.here outer s.known x h.known);
   resources = λ n k a. resource_kept w i.here j.here outer n k x (h.resources n k (subst (λ (l : List (Name × ℕ)). value_at l n ≡ Some k) rs a));
 }
 
@@ -256,11 +251,11 @@ put_either (x ∷ es) n m v k e = put_in_more x es n m v k (pointwise ◌==◌ n
 
 -- the name has an index, beside the others
 pub scope_has_resource : (w : Worlds) (c : Collection) (outer : List Scope) (i : Inside) (s u : TypeScope) (n : Name) (k : ℕ) → IsScope w c outer i s → IsResource w (i.here ∷ outer) n k
-    → u.declarations.items ≡ s.declarations.items → u.types ≡ s.types → u.known.all.items ≡ s.known.all.items → u.resources ≡ put_entry s.resources n k → IsScope w c outer i u
+    → u.declarations.items ≡ s.declarations.items → u.types ≡ s.types → u.known ≡ s.known → u.resources ≡ put_entry s.resources n k → IsScope w c outer i u
 scope_has_resource w c outer i s u n k h r ds t ks rs = record {
   reads = ap (λ (l : List Declaration). declared w outer nothing_inside (declarations_of l)) ds ∙ h.reads;
   types = t ∙ h.types;
-  known = λ x a. h.known x (subst (λ (l : List KnownType). Among x l) ks a);
+  known = subst (λ (k : KnownTypes). AreKnown w (i.here ∷ outer) c k) (sym ks) h.known;
   resources = λ m j a. elim (put_either s.resources n m k j (subst (λ (l : List (Name × ℕ)). value_at l m ≡ Some j) rs a)) [
     | inl e ↦ h.resources m j e
     | inr p ↦ record { reads = ap (type_at w (i.here ∷ outer)) p.1 ∙ r.reads ∙ ap (λ (x : Name). Some (rigid (resource x) end)) (sym p.0) }

@@ -1,5 +1,5 @@
 -- Type items by their indexes.
-use Rattle.std.proofs.Common.{◌≡◌, ℕ, zero, suc, ◌<◌, List, ◌∷◌, Bool, true, false, Option, Some, None, refl, sym, ap, ◌∙◌, arith}
+use Rattle.std.proofs.Common.{◌≡◌, ℕ, zero, suc, ◌<◌, List, ◌∷◌, Bool, true, false, Option, Some, None, refl, sym, ap, ◌∙◌, arith, subst}
 use Rattle.std.specs.Prelude.{slice_get}
 use Rattle.wac_types_base.specs.declared.ids.ResourceId.{ResourceId}
 use Rattle.wac_types_base.specs.declared.ids.DefinedTypeId.{DefinedTypeId}
@@ -13,6 +13,8 @@ use Rattle.wac_types_base.specs.Record.{Collection}
 use Rattle.wac_types_base.specs.Entries.{Name}
 use Rattle.wac_types_base.specs.Collection.{Stands, IsAcyclic, size_of, resource}
 use Rattle.wac_types_base.specs.Stated.{Kind, IsResource}
+use Rattle.wac_types_base.specs.Fits.{Fits}
+use Rattle.wac_types_fit.proofs.TreeLaws.{Fits-refl}
 use Rattle.wac_types_base.specs.Tree.{Tree, rigid, instance, component, core_module, handle_own, handle_borrow, type_item, end}
 use Rattle.wac_types_base.specs.Resolving.{IsNoAlias}
 use Rattle.wac_types_base.proofs.Standing.{resource_found, defined_found}
@@ -125,6 +127,9 @@ module _ (c : Collection) (acyclic : IsAcyclic c) (j k : ItemKind) where
 
   pub fits_used : IsUsedKind k → Stands c k → Fit c j c k → tree_in c j ≡ tree_in c k
   fits_used u s f = flat_fits (tree_in c j) (tree_in c k) (flat_is c acyclic k (used_flat k u) s) f
+
+pub same_fits : (c : Collection) (j k : ItemKind) → tree_in c j ≡ tree_in c k → Fit c j c k
+same_fits c j k e = subst (λ (t : Tree). Fits (tree_in c j) t) e (Fits-refl (tree_in c j))
 
 -- ---- the sort of a type
 

@@ -5,6 +5,7 @@ use Rattle.std.specs.Global.{Global}
 use Rattle.std.specs.declared.vec.Vec.{Vec}
 use Rattle.std.specs.Cmp.Lexicographic.{pointwise}
 use Rattle.std.proofs.lemmas.List.{map_push, take_all, length-map}
+use Rattle.std.proofs.lemmas.Option.{same_Some}
 use Rattle.std.proofs.lemmas.Slice.Eq.{bytes_eq-Decides}
 use Rattle.wac_types_base.specs.declared.ids.InterfaceId.{InterfaceId}
 use Rattle.wac_types_base.specs.declared.ids.FuncTypeId.{FuncTypeId}
@@ -38,16 +39,16 @@ use Rattle.wac_graph_bytes.specs.declared.module.CoreDeclaration.{CoreDeclaratio
 use Rattle.wac_graph_bytes.specs.Counting.{description_sort}
 use Rattle.wac_graph_bytes.specs.Entries.{End}
 use Rattle.wac_graph_bytes.specs.Typing as typing
-use Rattle.wac_graph_bytes.specs.Typing.{◌>>=◌, Worlds, Meaning, Item, Known, Scope, space, with_one, Inside, nothing_inside, adds_inside, imports_inside, exports_inside, declared, described, type_tree, type_at, item_of, as_func, as_sort, module_tree, instance_by}
+use Rattle.wac_graph_bytes.specs.Typing.{◌>>=◌, Worlds, Meaning, Item, Known, Scope, space, with_one, Inside, nothing_inside, adds_inside, imports_inside, exports_inside, declared, described, found, type_tree, type_at, item_of, as_func, as_sort, module_tree, instance_by}
 use Rattle.wac_graph_bytes.specs.Views.{before, declarations_of, module_view}
-use Rattle.wac_graph_bytes.proofs.Steps.{get_last, some_is}
+use Rattle.wac_graph_bytes.proofs.Steps.{get_last, some_is, last_of}
 use Rattle.wac_graph_bytes.proofs.Rows.{before_instance, before_component}
 use Rattle.wac_graph_scopes.specs.declared.scope.TypeScope.{TypeScope}
 use Rattle.wac_graph_scopes.specs.declared.items.ItemScope.{ItemScope}
 use Rattle.wac_graph_scopes.specs.Scopes.{AnswersType, ExportsType, IsTypeDeclaration}
 use Rattle.wac_graph_scopes.proofs.ScopeLaws.{type_stated}
 use Rattle.wac_graph_scopes.specs.Parts.{exports_of, IsOfInterface, IsOfWorld}
-use Rattle.wac_graph_scopes.specs.Items.{IsItemScope, ItemsGo, GivesType, ExportsItem, IsTypeItem, IsNotable, IsSorted, Describes, IsTreeOf, AreTreesOf, Writing, adds_core, HasCore, GivesCore, GivesItem, MayExport, WritesSome, GrowsBy, StatesInstance, StatesComponent, HasType, described_as, HasEntry, IsNoResource}
+use Rattle.wac_graph_scopes.specs.Items.{IsItemScope, ItemsGo, GivesType, ExportsItem, ExportsIndex, IsTypeItem, IsNotable, IsSorted, Describes, IsTreeOf, AreTreesOf, Writing, adds_core, HasCore, GivesCore, GivesItem, MayExport, WritesSome, GrowsBy, StatesInstance, StatesComponent, HasType, described_as, HasEntry, IsNoResource}
 use Rattle.wac_graph_scopes.proofs.ScopeLaws.{Extends-one}
 use Rattle.wac_graph_scopes.proofs.ItemLaws.{ItemsGo-refl, ItemsGo-trans, types_go, export_follows}
 use Rattle.wac_graph_scopes.proofs.UsedLaws.{root_of, plain_item}
@@ -216,6 +217,20 @@ module _ (w : Worlds) (c : Collection) (outer : List Scope) where
     extends = Extends-one so (Item m so t) i.here;
     imports = refl;
     exports = ap (λ (x : Name). i.exports ++ (x, t) ∷ []) e;
+  }
+
+  -- and the export's index stands for it
+  pub exported_index : (i : Inside) (m n : Name) (kind : ItemKind) (d : Description) (u : ItemScope) (k : ℕ) → m ≡ n → IsSorted kind d → k ≡ length (space (description_sort d) i.here)
+      → IsItemScope w c outer (exports_inside m (description_sort d, tree_in c kind) i) u → ExportsIndex w c outer i n kind u k
+  unfolding exported_item
+  exported_index i m n kind d u k e sorted at h = record {
+    exported = exported_item i m n (tree_in c kind) (description_sort d) u e h;
+    means = λ x is.
+        let t = tree_in c kind in
+        let here = with_one (description_sort d) (Item m (description_sort d) t) i.here in
+        let same : description_sort d ≡ x = same_Some _ _ (sym sorted ∙ is) in
+        let means = last_of (description_sort d) (Item m (description_sort d) t) i.here k at ∙ ap (λ (y : Name). Some (Item y (description_sort d) t)) e in
+        subst (λ (y : Sort). found (here ∷ outer) y k ≡ Some (Item n y t)) same means;
   }
 
   -- a type is exported that has an index

@@ -1,5 +1,5 @@
 -- What holds of the imports and exports of a world while they are written.
-use Rattle.std.specs.Prelude.{◌≡◌, ℕ, ◌+◌, List, [], ◌∷◌, ◌++◌, length, take, Result, Option, Some, None, slice_get, Bool, true, IfOk, IfSome, option_to_list}
+use Rattle.std.specs.Prelude.{◌≡◌, ℕ, ◌+◌, List, [], ◌∷◌, ◌++◌, length, take, Result, Option, Some, None, slice_get, Bool, true, false, IfOk, IfSome, option_to_list, map, ◌⊎◌}
 use Rattle.std.specs.declared.alloc.Global.{Global}
 use Rattle.std.specs.declared.vec.Vec.{Vec}
 use Rattle.wac_types_base.specs.declared.ids.InterfaceId.{InterfaceId}
@@ -7,10 +7,12 @@ use Rattle.wac_types_base.specs.declared.ids.WorldId.{WorldId}
 use Rattle.wac_types_base.specs.declared.item.ItemKind.{ItemKind}
 use Rattle.wac_types_base.specs.Record.{Collection}
 use Rattle.wac_types_base.specs.Graph.{Among}
-use Rattle.wac_types_base.specs.Entries.{Name, names_of, AreDistinct}
+use Rattle.wac_types_base.specs.Entries.{Name, names_of, value_at, AreDistinct}
+use Rattle.wac_types_base.specs.Parts.{identifier_in}
 use Rattle.wac_types_base.specs.Collection.{Stands}
 use Rattle.wac_types_base.specs.Tree.{Tree}
 use Rattle.wac_types_fit.specs.Trees.{tree_in}
+use Rattle.wac_graph_bytes.specs.declared.value.Sort.{Sort}
 use Rattle.wac_graph_bytes.specs.declared.value.Sort.TheVariants as sort
 use Rattle.wac_graph_bytes.specs.declared.value.Description.{Description}
 use Rattle.wac_graph_bytes.specs.declared.entry.Declaration.{Declaration}
@@ -23,8 +25,11 @@ use Rattle.wac_graph_scopes.specs.declared.items.ItemScope.{ItemScope}
 use Rattle.wac_graph_scopes.specs.declared.imports.Importing.{Importing}
 use Rattle.wac_graph_scopes.specs.declared.imports.SortIndex.{SortIndex}
 use Rattle.wac_graph_scopes.specs.declared.imports.ImportScope.{ImportScope}
+use Rattle.wac_graph_scopes.specs.declared.imports.Called.{Called}
 use Rattle.wac_graph_scopes.specs.declared.parts.Item.{Item}
-use Rattle.wac_graph_scopes.specs.Parts.{exports_of, imports_of, world_exports_of, IsUsedKind}
+use Rattle.wac_graph_scopes.specs.declared.parts.Use.{Use}
+use Rattle.wac_graph_scopes.specs.Used.{IsUsedAs}
+use Rattle.wac_graph_scopes.specs.Parts.{interface_in, exports_of, imports_of, world_exports_of, IsUsedKind}
 use Rattle.wac_graph_scopes.specs.Scopes.{Extends, GoesOn, AreKnown}
 use Rattle.wac_graph_scopes.specs.Items.{IsItemScope, AreUsed, IsTypeItem, IsInstanceAt, IsTreeOf, sort_of, IsSorted, Writing, StatesComponent}
 
@@ -58,6 +63,11 @@ abbrev pub ArePlaced : Worlds → Collection → List Scope → List (Name × It
 ArePlaced w c ss is ps = (at : ℕ) (n : Name) (k : ItemKind) (p : SortIndex) → slice_get is at ≡ Some (n, k)
     → slice_get ps at ≡ Some (Some p) → IsImportAt c ss n k p
 
+-- for each of these imports something stands that is written of it
+abbrev pub HavePlaces : List Name → (imported : List Name) → List (Option SortIndex) → Type 0
+HavePlaces ns imported ps =
+    (at : ℕ) (n : Name) → slice_get ns at ≡ Some n → Among n imported → (p : SortIndex) × (slice_get ps at ≡ Some (Some p))
+
 -- the import at the place is an instance that exports the item under that name
 pub record GivesAt (c : Collection) (is : List (Name × ItemKind)) (at : ℕ) (n : Name) (item : ItemKind) : Type 0 where
   pub interface : InterfaceId
@@ -68,15 +78,53 @@ abbrev pub GivesTaken : {E : Type 0} → Importing → ℕ → Name → ItemKind
 GivesTaken a at n item r =
     Stands a.types.now item → IsUsedKind item → IfOk r (λ yes. yes ≡ true → GivesAt a.types.now (all_imports a) at n item)
 
+-- nor is it said of an instance that exports the item
+abbrev pub NotGiven : {E : Type 0} → Importing → ℕ → Name → ItemKind → Result Bool E → Type 0
+NotGiven a at n item r =
+    Stands a.types.now item → IfOk r (λ yes. yes ≡ false → GivesAt a.types.now (all_imports a) at n item → ⊥)
+
+-- ---- how imports are found
+
+-- the places of the imports under the names under which they are asked for
+abbrev pub called_places : List Called → List (Name × ℕ)
+called_places cs = map (λ c. (c.name, c.at)) cs
+
+-- the places of names, from this place on
+abbrev pub own_places : ℕ → List Name → List (Name × ℕ)
+own_places at [] = []
+own_places at (n ∷ ns) = (n, at) ∷ own_places (at + 1) ns
+
+-- the places under the names under which imports are asked for, and then under their own
+abbrev pub import_places : Importing → List (Name × ℕ)
+import_places a = called_places a.called.now ++ own_places 0 (names_of (all_imports a))
+
+-- of each name the first place is found
+abbrev pub FindsFirst : List (Name × ℕ) → List (Name × ℕ) → Type 0
+FindsFirst found all = (n : Name) → value_at found n ≡ value_at all n
+
+-- the import that is found under the identifier is an instance that exports the item under the name, and this is its index
+pub record IsImportedAs (a : Importing) (s : ImportScope) (i n : Name) (item : ItemKind) (k : ℕ) : Type 0 where
+  pub at : ℕ
+  pub found : value_at s.found i ≡ Some at
+  pub placed : IsPlaced s.places.items at k
+  pub gives : GivesAt a.types.now (all_imports a) at n item
+
+-- the type that a use takes stands there under its name, or the import does that exports it
+abbrev pub IsFoundFor : Importing → ImportScope → Use → ItemKind → ℕ → Type 0
+IsFoundFor a s u item k = (i : Name) × (identifier_in (interface_in a.types.now u.interface) ≡ Some i)
+    × (IsUsedAs a.types.now s.used i u.there.now item k ⊎ IsImportedAs a s i u.there.now item k)
+
 -- ---- a world that is being written
 
 -- The scope stands, with these of the world's imports and these of its exports; the used types and the places of imports are
--- true.
+-- true, and each import that is written has its place.
 pub record WritesWorld (w : Worlds) (c : Collection) (outer : List Scope) (world : WorldId) (s : ImportScope)
     (imported exported : List Name) : Type 0 where
   pub writing : Writing w c outer (imports_of c world) (world_exports_of c world) s.scope imported exported
-  pub used : AreUsed w c (writing.inside.here ∷ outer) 0 s.used.all.items
+  pub used : AreUsed w c (writing.inside.here ∷ outer) 0 s.used
   pub placed : ArePlaced w c (writing.inside.here ∷ outer) (imports_of c world) s.places.items
+  pub many : length s.places.items ≡ length (imports_of c world)
+  pub have : HavePlaces (names_of (imports_of c world)) imported s.places.items
 
 -- The world is written on from there: what stood stands, and the same is imported and exported.
 pub record WritesOn (w : Worlds) (c : Collection) (outer : List Scope) (world : WorldId) (i : Inside) (s : ImportScope)
@@ -94,6 +142,11 @@ FindsSource a n item s r = Stands a.types.now item → IsUsedKind item
     → (h : WritesWorld w a.types.now outer a.world s imported exported)
     → IfOk r (λ o. IfSome o (IsSource w (h.writing.inside.here ∷ outer) n (tree_in a.types.now item)))
 
+-- and it is that of the import that is found under the identifier
+abbrev pub FindsImported : {E : Type 0} → Importing → ImportScope → Name → Name → ItemKind → Result (Option ℕ) E → Type 0
+FindsImported a s i n item r =
+    Stands a.types.now item → IsUsedKind item → IfOk r (λ o. IfSome o (IsImportedAs a s i n item))
+
 -- the world is written on, and the index, if there is one, stands for a type item with that tree
 pub record HasAlias (w : Worlds) (c : Collection) (outer : List Scope) (world : WorldId) (i : Inside) (s : ImportScope)
     (imported exported : List Name) (t : Tree) (o : Option ℕ) : Type 0 where
@@ -106,6 +159,19 @@ AliasesUse a item old new r =
     Stands a.types.now item → IsUsedKind item → (w : Worlds) (outer : List Scope) (i : Inside) (imported exported : List Name)
     → WritesOn w a.types.now outer a.world i old imported exported
     → IfOk r (HasAlias w a.types.now outer a.world i new imported exported (tree_in a.types.now item))
+
+-- the world is written on with aliases of what a source, or an instance of that interface, exports
+abbrev pub AliasesSource : {U E : Type 0} → Importing → ℕ → Name → ItemKind → ImportScope → ImportScope → Result U E → Type 0
+AliasesSource a k n item old new r = (w : Worlds) (outer : List Scope) (i : Inside) (imported exported : List Name)
+    → WritesOn w a.types.now outer a.world i old imported exported
+    → IsSource w (i.here ∷ outer) n (tree_in a.types.now item) k
+    → IfOk r (λ _. WritesOn w a.types.now outer a.world i new imported exported)
+
+abbrev pub AliasesInstance : {U E : Type 0} → Importing → InterfaceId → ℕ → ImportScope → ImportScope → Result U E → Type 0
+AliasesInstance a id k old new r = (w : Worlds) (outer : List Scope) (i : Inside) (imported exported : List Name)
+    → WritesOn w a.types.now outer a.world i old imported exported
+    → IsInstanceAt w (i.here ∷ outer) (tree_in a.types.now (ItemKind.Instance id)) k
+    → IfOk r (λ _. WritesOn w a.types.now outer a.world i new imported exported)
 
 abbrev pub AddsUsed : {E : Type 0} → Collection → WorldId → ℕ → Name → ItemKind → ImportScope → ImportScope → Result ℕ E → Type 0
 AddsUsed c world k n item old new r = Stands c item → IsUsedKind item
@@ -227,21 +293,32 @@ KeepsExporting a old before_names new names r =
     (w : Worlds) (outer : List Scope) (imported : List Name) → WritesWorld w a.types.now outer a.world old imported before_names
     → IfOk r (λ _. WritesWorld w a.types.now outer a.world new imported names)
 
--- the exports before this one are written, and perhaps others
-pub record ExportsWritten (w : Worlds) (c : Collection) (outer : List Scope) (world : WorldId) (at : ℕ) (s : ImportScope)
+-- the exports at these places are written, and perhaps others
+pub record ExportsWritten (w : Worlds) (c : Collection) (outer : List Scope) (world : WorldId) (places : List ℕ) (s : ImportScope)
     (imported exported : List Name) : Type 0 where
   pub goes : WritesWorld w c outer world s imported exported
-  pub all_before : (n : Name) → Among n (take at (names_of (world_exports_of c world))) → Among n exported
+  pub those : (k : ℕ) (n : Name) → Among k places → slice_get (names_of (world_exports_of c world)) k ≡ Some n → Among n exported
 
 abbrev pub ExportsAt : {U E : Type 0} → Importing → ℕ → ImportScope → List Name → ImportScope → List Name → Result U E → Type 0
-ExportsAt a at old before_names new names r = (w : Worlds) (outer : List Scope) (imported : List Name)
-    → ExportsWritten w a.types.now outer a.world at old imported before_names
-    → IfOk r (λ _. ExportsWritten w a.types.now outer a.world (at + 1) new imported names)
+ExportsAt a at old before_names new names r = (w : Worlds) (outer : List Scope) (imported : List Name) (places : List ℕ)
+    → ExportsWritten w a.types.now outer a.world places old imported before_names
+    → IfOk r (λ _. ExportsWritten w a.types.now outer a.world (places ++ at ∷ []) new imported names)
+
+abbrev pub ExportsInOrder : {U E : Type 0} → Importing → List ℕ → ImportScope → List Name → ImportScope → List Name → Result U E
+    → Type 0
+ExportsInOrder a order old before_names new names r =
+    (w : Worlds) (outer : List Scope) (imported : List Name) → WritesWorld w a.types.now outer a.world old imported before_names
+    → IfOk r (λ _. ExportsWritten w a.types.now outer a.world order new imported names)
+
+-- all are written
+abbrev pub AllExported : Worlds → Collection → List Scope → WorldId → ImportScope → (imported exported : List Name) → Type 0
+AllExported w c outer world s imported exported = WritesWorld w c outer world s imported exported
+    × ((n : Name) → Among n (names_of (world_exports_of c world)) → Among n exported)
 
 abbrev pub ExportsAll : {U E : Type 0} → Importing → ImportScope → List Name → ImportScope → List Name → Result U E → Type 0
 ExportsAll a old before_names new names r =
     (w : Worlds) (outer : List Scope) (imported : List Name) → WritesWorld w a.types.now outer a.world old imported before_names
-    → IfOk r (λ _. ExportsWritten w a.types.now outer a.world (length (world_exports_of a.types.now a.world)) new imported names)
+    → IfOk r (λ _. AllExported w a.types.now outer a.world new imported names)
 
 abbrev pub ExportsThere : {U E : Type 0} → Importing → Item → ImportScope → ImportScope → Result U E → Type 0
 ExportsThere a x old new r = (w : Worlds) (outer : List Scope) (imported exported : List Name) → Stands a.types.now x.kind
@@ -249,6 +326,20 @@ ExportsThere a x old new r = (w : Worlds) (outer : List Scope) (imported exporte
     → (Among x.name.now exported → ⊥)
     → WritesWorld w a.types.now outer a.world old imported exported
     → IfOk r (λ _. WritesWorld w a.types.now outer a.world new imported (exported ++ x.name.now ∷ []))
+
+-- and the export's index stands for it
+pub record HasExported (w : Worlds) (c : Collection) (outer : List Scope) (world : WorldId) (n : Name) (kind : ItemKind)
+    (s : ImportScope) (imported exported : List Name) (k : ℕ) : Type 0 where
+  pub goes : WritesWorld w c outer world s imported exported
+  pub means : (x : Sort) → sort_of kind ≡ Some x
+      → found (goes.writing.inside.here ∷ outer) x k ≡ Some (typing.Item n x (tree_in c kind))
+
+abbrev pub ExportsIndexed : {E : Type 0} → Importing → Item → ImportScope → ImportScope → Result ℕ E → Type 0
+ExportsIndexed a x old new r = (w : Worlds) (outer : List Scope) (imported exported : List Name) → Stands a.types.now x.kind
+    → IsTreeOf a.types.now (world_exports_of a.types.now a.world) x.name.now (tree_in a.types.now x.kind)
+    → (Among x.name.now exported → ⊥)
+    → WritesWorld w a.types.now outer a.world old imported exported
+    → IfOk r (HasExported w a.types.now outer a.world x.name.now x.kind new imported (exported ++ x.name.now ∷ []))
 
 -- ---- the whole world
 
@@ -271,5 +362,5 @@ MakesComponent c world r = Stands c (ItemKind.Component world) → (w : Worlds) 
     → IfOk r (λ v. StatesComponent w outer (tree_in c (ItemKind.Component world)) (declarations_of v.items))
 
 -- the world is begun
-abbrev pub BeginsWorld : ImportScope → Type 0
-BeginsWorld s = (w : Worlds) (c : Collection) (outer : List Scope) (world : WorldId) → WritesWorld w c outer world s [] []
+abbrev pub BeginsWorld : Importing → ImportScope → Type 0
+BeginsWorld a s = (w : Worlds) (outer : List Scope) → WritesWorld w a.types.now outer a.world s [] []

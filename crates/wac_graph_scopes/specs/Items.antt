@@ -1,6 +1,6 @@
 -- What holds of a scope of written types with items of all sorts while it is being written, and of the types that stand around
 -- it.
-use Rattle.std.specs.Prelude.{◌≡◌, ℕ, ◌+◌, Bool, true, false, List, [], ◌∷◌, ◌++◌, length, take, Result, Option, Some, None, slice_get, IfOk, IfSome, ◌⊎◌}
+use Rattle.std.specs.Prelude.{◌≡◌, ℕ, ◌+◌, Bool, true, false, List, [], ◌∷◌, ◌++◌, length, take, Result, Option, Some, None, slice_get, IfOk, IfSome, IfNone, ◌⊎◌}
 use Rattle.std.specs.declared.alloc.Global.{Global}
 use Rattle.std.specs.declared.vec.Vec.{Vec}
 use Rattle.wac_types_base.specs.declared.ids.InterfaceId.{InterfaceId}
@@ -10,6 +10,7 @@ use Rattle.wac_types_base.specs.declared.item.«Type».{«Type» as TypeKind}
 use Rattle.wac_types_base.specs.Record.{Collection}
 use Rattle.wac_types_base.specs.Graph.{Among}
 use Rattle.wac_types_base.specs.Entries.{Name, names_of, value_at, has_name, AreDistinct}
+use Rattle.wac_types_base.specs.Parts.{identifier_in}
 use Rattle.wac_types_base.specs.Collection.{Stands}
 use Rattle.wac_types_base.specs.Tree.{Tree}
 use Rattle.wac_types_fit.specs.Trees.{tree_in}
@@ -21,6 +22,7 @@ use Rattle.wac_graph_bytes.specs.declared.entry.Declaration.{Declaration}
 use Rattle.wac_graph_bytes.specs.Counting.{description_sort}
 use Rattle.wac_graph_bytes.specs.Entries.{Declarations, End}
 use Rattle.wac_graph_bytes.specs.Typing.{◌>>=◌, Worlds, Meaning, Scope, space, with_one, with_core, Inside, nothing_inside, adds_inside, declared, described, found_at, found, item_tree, type_tree, type_at, item_of, type_in, export_named, instance_tree, component_tree}
+use Rattle.wac_graph_bytes.specs.Typing as typing
 use Rattle.wac_graph_bytes.specs.Views.{before, declarations_of}
 use Rattle.wac_graph_scopes.specs.declared.scope.KnownTypes.{KnownTypes}
 use Rattle.wac_graph_scopes.specs.declared.items.ItemScope.{ItemScope}
@@ -29,7 +31,8 @@ use Rattle.wac_graph_scopes.specs.declared.items.PlacedInterface.{PlacedInterfac
 use Rattle.wac_graph_scopes.specs.declared.parts.Item.{Item}
 use Rattle.wac_graph_scopes.specs.declared.parts.Use.{Use}
 use Rattle.wac_graph_scopes.specs.declared.used.UsedIndex.{UsedIndex}
-use Rattle.wac_graph_scopes.specs.Parts.{exports_of, uses_of, IsUsedKind, IsFresh}
+use Rattle.wac_graph_scopes.specs.Used.{Used, used_at, IsUsedAs}
+use Rattle.wac_graph_scopes.specs.Parts.{interface_in, exports_of, uses_of, IsUsedKind, IsFresh}
 use Rattle.wac_graph_scopes.specs.Scopes.{Extends, AreKnown, IsScope, IsEntryIn, IsTypeDeclaration}
 
 -- The types can be read, and the counters of the other sorts are true.
@@ -85,6 +88,12 @@ pub record ExportsItem (w : Worlds) (c : Collection) (outer : List Scope) (i : I
   pub imports : after.imports ≡ i.imports
   pub exports : after.exports ≡ i.exports ++ (n, t) ∷ []
 
+-- And the export's index stands for it.
+pub record ExportsIndex (w : Worlds) (c : Collection) (outer : List Scope) (i : Inside) (n : Name) (kind : ItemKind) (s : ItemScope)
+    (k : ℕ) : Type 0 where
+  pub exported : ExportsItem w c outer i n (tree_in c kind) s
+  pub means : (x : Sort) → sort_of kind ≡ Some x → found (exported.after.here ∷ outer) x k ≡ Some (typing.Item n x (tree_in c kind))
+
 -- ---- types that stand around
 
 -- the index, so many scopes further out, stands for the type that the item is
@@ -100,11 +109,11 @@ pub record IsUsedType (w : Worlds) (c : Collection) (ss : List Scope) (depth : �
   pub index : IsTypeItem w ss depth (tree_in c u.item) u.index
 
 -- all of them are true, in scopes so far out
-abbrev pub AreUsed : Worlds → Collection → List Scope → ℕ → List UsedIndex → Type 0
-AreUsed w c ss depth us = (u : UsedIndex) → Among u us → IsUsedType w c ss depth u
+abbrev pub AreUsed : Worlds → Collection → List Scope → ℕ → Used → Type 0
+AreUsed w c ss depth us = (i n : Name) (u : UsedIndex) → used_at us i n ≡ Some u → IsUsedType w c ss depth u
 
 -- the same whatever stands in the innermost scope
-abbrev pub AreAround : Worlds → Collection → List Scope → ℕ → List UsedIndex → Type 0
+abbrev pub AreAround : Worlds → Collection → List Scope → ℕ → Used → Type 0
 AreAround w c outer depth us = (here : Scope) → AreUsed w c (here ∷ outer) depth us
 
 -- the index stands for the type that a type item is
@@ -182,6 +191,10 @@ with_count desc.Resource n s = record s { types = record s.types { types = n } }
 with_count (desc.Component k) n s = record s { components = n }
 with_count (desc.Instance k) n s = record s { instances = n }
 
+-- the scope, where these types are known
+abbrev pub with_known : KnownTypes → ItemScope → ItemScope
+with_known ks s = record s { types = record s.types { known = ks } }
+
 -- one more item stands, with that index: an import or an export
 pub record HasItem (w : Worlds) (c : Collection) (outer : List Scope) (i j : Inside) (d : Description) (s : ItemScope)
     (k : ℕ) : Type 0 where
@@ -223,9 +236,25 @@ Notes c kind k old new r = (w : Worlds) (outer : List Scope) (i : Inside) → Is
     → IsNotable w c (i.here ∷ outer) kind k → IfOk r (λ _. IsItemScope w c outer i new)
 
 -- what is found of the types that stand around is that item's type
-abbrev pub FindsUsed : {E : Type 0} → Collection → List UsedIndex → ItemKind → Result (Option ℕ) E → Type 0
+abbrev pub FindsUsed : {E : Type 0} → Collection → Used → ItemKind → Result (Option ℕ) E → Type 0
 FindsUsed c us item r = (w : Worlds) (ss : List Scope) (depth : ℕ) → AreUsed w c ss depth us
     → IfOk r (λ o. IfSome o (IsTypeItem w ss depth (tree_in c item)))
+
+-- and it is the one under that identifier and that name
+abbrev pub FindsUnder : {E : Type 0} → Collection → Used → Name → Name → ItemKind → Result (Option ℕ) E → Type 0
+FindsUnder c us i n item r = Stands c item → IsUsedKind item → IfOk r (λ o. IfSome o (IsUsedAs c us i n item))
+
+-- nothing is so
+abbrev pub Never : {X : Type 0} → (X → Type 0) → Type 0
+Never P = (x : _) → P x → ⊥
+
+-- nothing is found only where there is nothing of the kind
+abbrev pub Misses : {X E : Type 0} → Collection → ItemKind → (X → Type 0) → Result (Option X) E → Type 0
+Misses c item P r = Stands c item → IfOk r (λ o. IfNone o (Never P))
+
+-- the type that a use takes, which stands there under its name
+abbrev pub IsUsedBy : Collection → Used → Use → ItemKind → ℕ → Type 0
+IsUsedBy c us u item k = (i : Name) × (identifier_in (interface_in c u.interface) ≡ Some i) × IsUsedAs c us i u.there.now item k
 
 abbrev pub MayGive : Worlds → Collection → List Scope → Inside → Tree → ItemScope → Option ℕ → Type 0
 MayGive w c outer i t s None = IsItemScope w c outer i s
@@ -234,13 +263,18 @@ MayGive w c outer i t s (Some k) = GivesItem w c outer i t s k
 -- an alias of a type that stands around, if it does
 abbrev pub AliasesUsed : {E : Type 0} → Collection → Around → ItemKind → ItemScope → ItemScope → Result (Option ℕ) E → Type 0
 AliasesUsed c a item old new r = (w : Worlds) (outer : List Scope) (i : Inside) → IsItemScope w c outer i old
-    → AreUsed w c (i.here ∷ outer) a.depth a.used.now.all.items
+    → AreUsed w c (i.here ∷ outer) a.depth a.used.now
     → IfOk r (MayGive w c outer i (tree_in c item) new)
 
 -- whether the interface has that export, which is the item
 abbrev pub ExportsTaken : {E : Type 0} → Collection → InterfaceId → Name → ItemKind → Result Bool E → Type 0
 ExportsTaken c id n item r =
     Stands c item → IsUsedKind item → IfOk r (λ yes. yes ≡ true → IsTreeOf c (exports_of c id) n (tree_in c item))
+
+-- nor is it said of an export that is the item
+abbrev pub NotTaken : {E : Type 0} → Collection → InterfaceId → Name → ItemKind → Result Bool E → Type 0
+NotTaken c id n item r =
+    Stands c item → IfOk r (λ yes. yes ≡ false → IsTreeOf c (exports_of c id) n (tree_in c item) → ⊥)
 
 -- the name at the place, if there is one, is among these
 abbrev pub HasNameAt : List Name → ℕ → List Name → Type 0
@@ -259,11 +293,11 @@ ExportsUsed c id used item k old new r =
 
 -- what is used around the interface stands in the scopes
 abbrev pub StandsAround : Worlds → List Scope → PlacedInterface → Type 0
-StandsAround w outer p = AreAround w p.types.now outer p.around.depth p.around.used.now.all.items
+StandsAround w outer p = AreAround w p.types.now outer p.around.depth p.around.used.now
 
 abbrev pub TakesUse : {E : Type 0} → PlacedInterface → Use → ItemScope → ItemScope → Result Bool E → Type 0
 TakesUse p used old new r = (w : Worlds) (outer : List Scope) (i : Inside) → IsItemScope w p.types.now outer i old
-    → AreUsed w p.types.now (i.here ∷ outer) p.around.depth p.around.used.now.all.items
+    → AreUsed w p.types.now (i.here ∷ outer) p.around.depth p.around.used.now
     → IfOk r (MayExport w p.types.now outer i (exports_of p.types.now p.id) used.name.now new)
 
 -- the items of an interface whose names these are, each with its tree
@@ -299,11 +333,11 @@ abbrev pub KeepsWriting : {U E : Type 0} → Collection → InterfaceId → Item
 KeepsWriting c id old before_names new names r = (w : Worlds) (outer : List Scope) → WritesSome w c outer id old before_names
     → IfOk r (λ _. WritesSome w c outer id new names)
 
-abbrev pub ExportsDescribed : {U E : Type 0} → Collection → Item → Description → ItemScope → ItemScope → Result U E → Type 0
+abbrev pub ExportsDescribed : {E : Type 0} → Collection → Item → Description → ItemScope → ItemScope → Result ℕ E → Type 0
 ExportsDescribed c x d old new r =
     (w : Worlds) (outer : List Scope) (i : Inside) → IsItemScope w c outer i old → Stands c x.kind → IsSorted x.kind d
     → described w (i.here ∷ outer) x.name.now d ≡ Some (description_sort d, tree_in c x.kind)
-    → IfOk r (λ _. ExportsItem w c outer i x.name.now (tree_in c x.kind) new)
+    → IfOk r (ExportsIndex w c outer i x.name.now x.kind new)
 
 abbrev pub ExportsFresh : {U E : Type 0} → Collection → Item → ItemScope → ItemScope → Result U E → Type 0
 ExportsFresh c x old new r = (w : Worlds) (outer : List Scope) (i : Inside) → IsItemScope w c outer i old
@@ -383,18 +417,18 @@ StatesClosed c kind old new r = Stands c kind → StatesType c kind old new r
 
 abbrev pub StatesItem : {E : Type 0} → Collection → Around → ItemKind → ItemScope → ItemScope → Result ℕ E → Type 0
 StatesItem c a kind old new r = Stands c kind → (w : Worlds) (outer : List Scope) (i : Inside) → IsItemScope w c outer i old
-    → AreUsed w c (i.here ∷ outer) a.depth a.used.now.all.items
+    → AreUsed w c (i.here ∷ outer) a.depth a.used.now
     → IfOk r (GivesType w c outer i (tree_in c kind) new)
 
 abbrev pub DescribesItem : {E : Type 0} → Collection → Around → ItemKind → ItemScope → ItemScope → Result Description E → Type 0
 DescribesItem c a kind old new r = (w : Worlds) (outer : List Scope) (i : Inside) → IsItemScope w c outer i old
-    → AreUsed w c (i.here ∷ outer) a.depth a.used.now.all.items
+    → AreUsed w c (i.here ∷ outer) a.depth a.used.now
     → IfOk r (Describes w c outer i kind new)
 
-abbrev pub ExportsOne : {U E : Type 0} → Collection → Around → Item → ItemScope → ItemScope → Result U E → Type 0
+abbrev pub ExportsOne : {E : Type 0} → Collection → Around → Item → ItemScope → ItemScope → Result ℕ E → Type 0
 ExportsOne c a x old new r = Stands c x.kind → (w : Worlds) (outer : List Scope) (i : Inside) → IsItemScope w c outer i old
-    → AreUsed w c (i.here ∷ outer) a.depth a.used.now.all.items
-    → IfOk r (λ _. ExportsItem w c outer i x.name.now (tree_in c x.kind) new)
+    → AreUsed w c (i.here ∷ outer) a.depth a.used.now
+    → IfOk r (ExportsIndex w c outer i x.name.now x.kind new)
 
 -- the items before this one are written, and perhaps others
 pub record ItemsWritten (w : Worlds) (c : Collection) (outer : List Scope) (id : InterfaceId) (at : ℕ) (s : ItemScope)

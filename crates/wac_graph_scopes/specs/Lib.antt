@@ -1,3 +1,5 @@
+pub mod Prints
+pub mod Known
 pub mod Forms
 pub mod Scopes
 pub mod Refusals
@@ -5,6 +7,7 @@ pub mod CoreItems
 pub mod ItemRefusals
 pub mod Roots
 pub mod Parts
+pub mod Used
 pub mod Items
 pub mod Orders
 pub mod Imports

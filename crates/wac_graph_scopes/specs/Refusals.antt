@@ -1,17 +1,22 @@
 -- Why types could not be written in a scope.
-use Rattle.std.specs.Prelude.{◌≡◌, ℕ, List, Option, Result, Some, None, IfErr}
+use Rattle.std.specs.Prelude.{◌≡◌, ℕ, List, Option, Result, Some, None, IfErr, slice_get}
+use Rattle.wac_types_base.specs.declared.ids.DefinedTypeId.{DefinedTypeId}
 use Rattle.wac_types_base.specs.declared.ids.ResourceId.{ResourceId}
 use Rattle.wac_types_base.specs.declared.item.ValueType.{ValueType}
 use Rattle.wac_types_base.specs.declared.item.ItemKind.{ItemKind}
 use Rattle.wac_types_base.specs.declared.item.«Type».{«Type» as TypeKind}
+use Rattle.wac_types_base.specs.declared.defined.DefinedType.{DefinedType}
 use Rattle.wac_types_base.specs.Record.{Collection}
 use Rattle.wac_types_base.specs.Graph.{Among}
 use Rattle.wac_types_base.specs.Entries.{Name, value_at}
 use Rattle.wac_types_base.specs.Collection.{Stands, slots_of, resource}
+use Rattle.wac_types_base.specs.Resolving.{IsNoAlias}
 use Rattle.wac_types_base.specs.Tree.{rigid, end}
 use Rattle.wac_types_fit.specs.Trees.{tree_in}
 use Rattle.wac_graph_scopes.specs.declared.fault.WriteError.{WriteError}
 use Rattle.wac_graph_scopes.specs.declared.scope.TypeScope.{TypeScope}
+use Rattle.wac_graph_scopes.specs.Known.{IsFound}
+use Rattle.wac_graph_scopes.specs.Scopes.{IsScopeOf}
 
 -- the resource at the end of its aliases has no index there under its name
 pub record IsUnnamed (c : Collection) (rs : List (Name × ℕ)) (r : ResourceId) : Type 0 where
@@ -19,22 +24,53 @@ pub record IsUnnamed (c : Collection) (rs : List (Name × ℕ)) (r : ResourceId)
   pub root : tree_in c (ItemKind.Ty (TypeKind.Resource r)) ≡ rigid (resource name) end
   pub lacking : value_at rs name ≡ None
 
--- In what a kind names stands a handle of a resource that has no index there.
-pub data Dangles (c : Collection) (rs : List (Name × ℕ)) : ItemKind → Type 0 where
-  own_dangles : {r : ResourceId} → IsUnnamed c rs r → Dangles c rs (ItemKind.Value (ValueType.Own r))
-  borrow_dangles : {r : ResourceId} → IsUnnamed c rs r → Dangles c rs (ItemKind.Value (ValueType.Borrow r))
-  part_dangles : {k : ItemKind} {v : ValueType} → Among (Some (ItemKind.Value v)) (slots_of c k)
-      → Dangles c rs (ItemKind.Value v) → Dangles c rs k
+-- of a defined type that is no alias it is said that it is not known in the scope
+abbrev pub IsLookedUp : Collection → TypeScope → ItemKind → Type 0
+IsLookedUp c s (ItemKind.Value (ValueType.Defined d)) =
+    IsNoAlias c (ValueType.Defined d) → IsScopeOf c s → IsFound c s.known.all.items d → ⊥
+IsLookedUp c s k = Unit {0}
 
--- why what a kind names could not be written in the scope
-abbrev pub Refused : Collection → ItemKind → TypeScope → WriteError → Type 0
-Refused c k s WriteError.Unwritable = Dangles c s.resources k
-Refused c k s WriteError.Memory = Unit {0}
+-- In what a kind names stands a handle of a resource that has no index there, and no type around it is known.
+pub data Dangles (c : Collection) (rs : List (Name × ℕ)) (s : TypeScope) : ItemKind → Type 0 where
+  own_dangles : {r : ResourceId} → IsUnnamed c rs r → Dangles c rs s (ItemKind.Value (ValueType.Own r))
+  borrow_dangles : {r : ResourceId} → IsUnnamed c rs r → Dangles c rs s (ItemKind.Value (ValueType.Borrow r))
+  part_dangles : {k : ItemKind} {v : ValueType} → IsLookedUp c s k → Among (Some (ItemKind.Value v)) (slots_of c k)
+      → Dangles c rs s (ItemKind.Value v) → Dangles c rs s k
+
+-- in one of its parts
+abbrev pub PartDangles : Collection → List (Name × ℕ) → TypeScope → ItemKind → Type 0
+PartDangles c rs s k = (v : ValueType) × Among (Some (ItemKind.Value v)) (slots_of c k) × Dangles c rs s (ItemKind.Value v)
+
+-- Likewise of what is written whether or not it is known: of what is at the end of its aliases a part dangles.
+pub data DanglesApart (c : Collection) (rs : List (Name × ℕ)) (s : TypeScope) : ItemKind → Type 0 where
+  dangles_apart : {k : ItemKind} → Dangles c rs s k → DanglesApart c rs s k
+  part_apart : {d : DefinedTypeId} → PartDangles c rs s (ItemKind.Value (ValueType.Defined d))
+      → DanglesApart c rs s (ItemKind.Value (ValueType.Defined d))
+  alias_apart : {d : DefinedTypeId} {v : ValueType} → slice_get c.defined_types d.index ≡ Some (DefinedType.Alias v)
+      → DanglesApart c rs s (ItemKind.Value v) → DanglesApart c rs s (ItemKind.Value (ValueType.Defined d))
+
+-- why what a kind names could not be written in the scope, which became another one
+abbrev pub Refused : Collection → ItemKind → TypeScope → TypeScope → WriteError → Type 0
+Refused c k s u WriteError.Unwritable = Dangles c u.resources s k
+Refused c k s u WriteError.Memory = Unit {0}
+
+-- why what a kind is made of could not be written
+abbrev pub RefusedParts : Collection → ItemKind → TypeScope → TypeScope → WriteError → Type 0
+RefusedParts c k s u WriteError.Unwritable = PartDangles c u.resources s k
+RefusedParts c k s u WriteError.Memory = Unit {0}
+
+-- why what a kind names could not be written, be it known or not
+abbrev pub RefusedApart : Collection → ItemKind → TypeScope → TypeScope → WriteError → Type 0
+RefusedApart c k s u WriteError.Unwritable = DanglesApart c u.resources s k
+RefusedApart c k s u WriteError.Memory = Unit {0}
 
 -- of the value type in a place
-abbrev pub RefusedPlace : Collection → Option ValueType → TypeScope → WriteError → Type 0
-RefusedPlace c o s e = (v : ValueType) × (o ≡ Some v) × Refused c (ItemKind.Value v) s e
+abbrev pub RefusedPlace : Collection → Option ValueType → TypeScope → TypeScope → WriteError → Type 0
+RefusedPlace c o s u e = (v : ValueType) × (o ≡ Some v) × Refused c (ItemKind.Value v) s u e
 
 -- why what stands could not be written in the scope
-abbrev pub RefusedThere : {T : Type 0} → Collection → ItemKind → TypeScope → Result T WriteError → Type 0
-RefusedThere c k s r = Stands c k → IfErr r (Refused c k s)
+abbrev pub RefusedThere : {T : Type 0} → Collection → ItemKind → TypeScope → TypeScope → Result T WriteError → Type 0
+RefusedThere c k s u r = Stands c k → IfErr r (Refused c k s u)
+
+abbrev pub RefusedThereApart : {T : Type 0} → Collection → ItemKind → TypeScope → TypeScope → Result T WriteError → Type 0
+RefusedThereApart c k s u r = Stands c k → IfErr r (RefusedApart c k s u)

@@ -1,6 +1,6 @@
 -- What holds of a scope of written types while it is being written: an instance type, a component type, or the root of a
 -- component before anything is instantiated.
-use Rattle.std.specs.Prelude.{◌≡◌, ℕ, List, [], ◌∷◌, ◌++◌, length, Option, Result, Some, None, slice_get, IfSome, IfOk}
+use Rattle.std.specs.Prelude.{◌≡◌, ℕ, List, [], ◌∷◌, ◌++◌, length, Option, Result, Some, None, slice_get, IfSome, IfNone, IfOk, true}
 use Rattle.std.specs.declared.alloc.Global.{Global}
 use Rattle.std.specs.declared.vec.Vec.{Vec}
 use Rattle.wac_types_base.specs.declared.ids.DefinedTypeId.{DefinedTypeId}
@@ -25,6 +25,7 @@ use Rattle.wac_graph_bytes.specs.Views.{before, declarations_of, defined_view}
 use Rattle.wac_graph_scopes.specs.declared.scope.KnownType.{KnownType}
 use Rattle.wac_graph_scopes.specs.declared.scope.KnownTypes.{KnownTypes}
 use Rattle.wac_graph_scopes.specs.declared.scope.TypeScope.{TypeScope}
+use Rattle.wac_graph_scopes.specs.Known.{ArePlaces, HasPrint, HasTree, type_tree, IsFound}
 
 -- more may stand, and what stood stands
 pub record Extends (old new : Scope) : Type 0 where
@@ -49,9 +50,10 @@ pub record GoesOn (old new : Inside) : Type 0 where
 pub record IsKnown (w : Worlds) (ss : List Scope) (c : Collection) (k : KnownType) : Type 0 where
   pub reads : value_of w ss (Index k.index) ≡ Some (tree_in c (ItemKind.Value (ValueType.Defined k.id)))
 
--- all of them are true there
-abbrev pub AreKnown : Worlds → List Scope → Collection → KnownTypes → Type 0
-AreKnown w ss c ks = (k : KnownType) → Among k ks.all.items → IsKnown w ss c k
+-- all of them are true there, and each is found
+pub record AreKnown (w : Worlds) (ss : List Scope) (c : Collection) (ks : KnownTypes) : Type 0 where
+  pub each : (k : KnownType) → Among k ks.all.items → IsKnown w ss c k
+  pub places : ArePlaces c ks
 
 -- the index of a resource that stands there stands for the resource of that name
 pub record IsResource (w : Worlds) (ss : List Scope) (n : Name) (k : ℕ) : Type 0 where
@@ -63,6 +65,10 @@ pub record IsScope (w : Worlds) (c : Collection) (outer : List Scope) (i : Insid
   pub types : s.types ≡ length i.here.types
   pub known : AreKnown w (i.here ∷ outer) c s.known
   pub resources : (n : Name) (k : ℕ) → value_at s.resources n ≡ Some k → IsResource w (i.here ∷ outer) n k
+
+-- in some scopes it is a scope of the collection
+abbrev pub IsScopeOf : Collection → TypeScope → Type 0
+IsScopeOf c s = (w : Worlds) × (outer : List Scope) × (i : Inside) × IsScope w c outer i s
 
 -- whatever scope of the collection it was, it is again
 abbrev pub KeepsScope : Collection → TypeScope → TypeScope → Type 0
@@ -176,6 +182,14 @@ WritesEntry c id old new r =
     (w : Worlds) (outer : List Scope) (i : Inside) → IsNoAlias c (ValueType.Defined id) → IsScope w c outer i old
     → IfOk r (λ k. AnswersValue w c outer i (tree_in c (ItemKind.Value (ValueType.Defined id))) new (Index k))
 
+-- nothing is found only where no type with a name has its tree
+abbrev pub FindsTree : Collection → TypeScope → DefinedTypeId → Option ℕ → Type 0
+FindsTree c s id o = IsScopeOf c s → IfNone o (HasTree c s.known.all.items (type_tree c id) → ⊥)
+
+-- nothing is found only where the type is not known
+abbrev pub FindsAll : Collection → TypeScope → DefinedTypeId → Option ℕ → Type 0
+FindsAll c s id o = IsScopeOf c s → IfNone o (IsFound c s.known.all.items id → ⊥)
+
 abbrev pub FindsResource : {E : Type 0} → Collection → Tree → TypeScope → Result ℕ E → Type 0
 FindsResource c t s r =
     (w : Worlds) (outer : List Scope) (i : Inside) → IsScope w c outer i s → IfOk r (λ k. type_at w (i.here ∷ outer) k ≡ Some t)
@@ -217,10 +231,14 @@ ExportsNewType n ty old new r = (w : Worlds) (c : Collection) (outer : List Scop
     → IsScope w c outer i old → type_at w (i.here ∷ outer) ty ≡ Some t
     → IfOk r (λ k. ExportsType w c outer i n t new k)
 
+-- a type without a name is known by its index, and one with a name has a number that is found
+abbrev pub MayBeNamed : Collection → TypeScope → KnownType → Type 0
+MayBeNamed c s k = k.named ≡ true → HasPrint c s.known.places.by_print.entries k.id
+
 -- the index is remembered for the type that it stands for
-abbrev pub Remembers : {U E : Type 0} → DefinedTypeId → ℕ → TypeScope → TypeScope → Result U E → Type 0
-Remembers id k old new r = (w : Worlds) (c : Collection) (outer : List Scope) (i : Inside) → IsScope w c outer i old
-    → StandsFor w (i.here ∷ outer) c id k → IfOk r (λ _. IsScope w c outer i new)
+abbrev pub Remembers : {U E : Type 0} → KnownType → TypeScope → TypeScope → Result U E → Type 0
+Remembers k old new r = (w : Worlds) (c : Collection) (outer : List Scope) (i : Inside) → IsScope w c outer i old
+    → IsKnown w (i.here ∷ outer) c k → MayBeNamed c old k → IfOk r (λ _. IsScope w c outer i new)
 
 abbrev pub FindsKnown : TypeScope → Option KnownType → Type 0
 FindsKnown s o = (w : Worlds) (c : Collection) (outer : List Scope) (i : Inside) → IsScope w c outer i s

@@ -1,6 +1,6 @@
 //! Imports of a component type, or of the root, with the interfaces that they use.
 
-ghost use Rattle.std.specs.Prelude.{◌≡◌, List, [], Some, true, false, length, slice_get, slice_set, IfSome, IfNone, IfOk, IfErr, OnOk};
+ghost use Rattle.std.specs.Prelude.{◌≡◌, ◌++◌, ◌∷◌, ℕ, List, [], Some, true, false, length, slice_get, slice_set, IfSome, IfNone, IfOk, IfErr, OnOk};
 ghost use Rattle.wac_types_base.specs.declared.ids.WorldId.{WorldId};
 ghost use Rattle.wac_types_base.specs.declared.item.ItemKind.{ItemKind};
 ghost use Rattle.wac_types_base.specs.Record.{Collection};
@@ -10,12 +10,14 @@ ghost use Rattle.wac_types_fit.specs.Trees.{IsInside};
 ghost use Rattle.wac_graph_bytes.specs.declared.value.Sort.TheVariants.{Instance};
 ghost use Rattle.wac_graph_bytes.specs.Counting.{description_sort};
 ghost use Rattle.wac_graph_bytes.specs.Typing.{Worlds, Scope, nothing_inside};
-ghost use Rattle.wac_graph_scopes.specs.Parts.{IsUsedKind, IsFresh};
-ghost use Rattle.wac_graph_scopes.specs.Items.{IsItemScope, HasNameAt, HasEntry, IsNoResource, DescribesSimply, DescribesEntry, DescribesOwn};
+ghost use Rattle.wac_graph_scopes.specs.Used.{put_used, IsUsedAs};
+ghost use Rattle.wac_graph_scopes.specs.Parts.{IsUsedKind, exports_of};
+ghost use Rattle.wac_graph_scopes.specs.Items.{IsItemScope, with_known, Never, Misses, HasNameAt, HasEntry, IsNoResource, DescribesSimply, DescribesEntry, DescribesOwn};
 ghost use Rattle.wac_graph_scopes.specs.Orders.{IsOrder, SourcesFirst};
-ghost use Rattle.wac_graph_scopes.specs.ItemRefusals.{RefusedType, RefusedItem};
-ghost use Rattle.wac_graph_scopes.specs.Imports.{all_imports, all_exports, NoneWritten, IsInstanceImport, IsPlaced, GivesTaken, FindsSource, AddsUsed, AliasesUse, KeepsWorld, DescribesImport, DescribesThere, DescribesOther, MayDescribe};
-ghost use Rattle.wac_graph_scopes.specs.Imports.{ImportsDescribed, ImportsAt, WritesImport, WritesInOrder, KeepsExporting, ExportsAt, ExportsAll, ExportsThere, WritesBetween, WritesBeforeOthers, BeginsWorld, MakesComponent};
+ghost use Rattle.wac_graph_scopes.specs.ItemRefusals.{RefusedTypeApart, RefusedItem, RefusedUse};
+ghost use Rattle.wac_graph_scopes.specs.Imports.{all_imports, all_exports, NoneWritten, IsInstanceImport, IsPlaced, GivesTaken, NotGiven, FindsSource, AddsUsed, AliasesUse, KeepsWorld, DescribesImport, DescribesThere, DescribesOther, MayDescribe};
+ghost use Rattle.wac_graph_scopes.specs.Imports.{called_places, own_places, import_places, FindsFirst, IsImportedAs, IsFoundFor, FindsImported};
+ghost use Rattle.wac_graph_scopes.specs.Imports.{ImportsDescribed, ImportsAt, WritesImport, WritesInOrder, ExportsIndexed, AliasesInstance, AliasesSource, BeginsWorld};
 
 use crate::fault::WriteError;
 use crate::items::{
@@ -25,8 +27,8 @@ use crate::items::{
 use crate::order::{ImportOrder, order_of};
 use crate::parts::{
     Item, Use, export_at, export_count, identifier, import_at, import_count, interface_of,
-    is_fresh, taken, use_at, use_count, world_export_at, world_export_count, world_use_at,
-    world_use_count, world_use_named,
+    is_fresh, is_used_kind, taken, use_at, use_count, world_export_at, world_export_count,
+    world_use_at, world_use_count, world_use_named,
 };
 use crate::scope::KnownTypes;
 use crate::used::{TypeName, UsedIndex, UsedTypes};
@@ -67,6 +69,8 @@ pub struct Importing<'a> {
     pub types: &'a Types,
     pub world: WorldId,
     pub called: &'a [Called],
+    /// Whether exports are over the interfaces that the world exports, where it exports those that they use.
+    pub over_exports: bool,
 }
 
 /// What sort an item so described is of.
@@ -89,9 +93,12 @@ fn add_place(
     found: &mut NamedMap<usize>,
     name: &str,
     at: usize,
-) -> Result<(), AllocError> {
+) -> Result<(), AllocError>
+    ensures { OnOk result (FindsFirst found.new (found.old ++ (name.now, at) ∷ [])) }
+{
     if !found.contains(name) {
-        let _ = found.insert(String::from_str(alloc, name)?, at)?;
+        let name = String::from_str(alloc, name)?;
+        found.push(name, at)?;
     }
     Ok(())
 }
@@ -101,7 +108,9 @@ fn add_places(
     alloc: Global,
     all: Importing<'_>,
     found: &mut NamedMap<usize>,
-) -> Result<(), AllocError> {
+) -> Result<(), AllocError>
+    ensures { OnOk result (FindsFirst found.new (found.old ++ own_places 0 (names_of (all_imports all.entry)))) }
+{
     for at in 0..import_count(all.types, all.world) {
         if let Some(import) = import_at(all.types, all.world, at) {
             add_place(alloc, found, import.name, at)?;
@@ -115,7 +124,9 @@ fn add_called(
     alloc: Global,
     all: Importing<'_>,
     found: &mut NamedMap<usize>,
-) -> Result<(), AllocError> {
+) -> Result<(), AllocError>
+    ensures { OnOk result (FindsFirst found.new (found.old ++ called_places all.entry.called.now)) }
+{
     for called in all.called {
         add_place(alloc, found, called.name.as_str(), called.at)?;
     }
@@ -125,7 +136,8 @@ fn add_called(
 /// Adds places at which no import is written yet.
 fn add_empty(count: usize, places: &mut Vec<Option<SortIndex>>) -> Result<(), AllocError>
     requires { places.old.items ≡ [] }
-    ensures { OnOk result (NoneWritten places.new.items) }
+    ensures none { OnOk result (NoneWritten places.new.items) }
+    ensures many { OnOk result (length places.new.items ≡ count) }
 {
     for _at in 0..count {
         places.push(None)?;
@@ -135,7 +147,8 @@ fn add_empty(count: usize, places: &mut Vec<Option<SortIndex>>) -> Result<(), Al
 
 /// The interface of the instance that is imported at a place.
 fn instance_at(all: Importing<'_>, at: usize) -> Option<InterfaceId>
-    ensures { IfSome result (λ id. IsInstanceImport (all_imports all.entry) at id) }
+    ensures found { IfSome result (IsInstanceImport (all_imports all.entry) at) }
+    ensures none { IfNone result (Never (IsInstanceImport (all_imports all.entry) at)) }
 {
     match import_at(all.types, all.world, at) {
         Some(import) => match import.kind {
@@ -154,7 +167,9 @@ fn gives(
     name: &str,
     item: ItemKind,
 ) -> Result<bool, WriteError>
-    ensures { GivesTaken all.entry at name.now item result }
+    ensures yes { GivesTaken all.entry at name.now item result }
+    ensures no { NotGiven all.entry at name.now item result }
+    ensures refused { IfErr result (λ e. e ≡ WriteError.Memory) }
 {
     match instance_at(all, at) {
         Some(id) => exports_taken(alloc, all.types, id, name, item),
@@ -164,7 +179,8 @@ fn gives(
 
 /// The index of the instance at a place.
 fn instance_index(places: &[Option<SortIndex>], at: usize) -> Option<u64>
-    ensures { IfSome result (IsPlaced places.now at) }
+    ensures found { IfSome result (IsPlaced places.now at) }
+    ensures none { IfNone result (Never (IsPlaced places.now at)) }
 {
     match places.get(at) {
         Some(place) => index_of_instance(*place),
@@ -174,7 +190,8 @@ fn instance_index(places: &[Option<SortIndex>], at: usize) -> Option<u64>
 
 /// The index of what is written, if it is an instance.
 fn index_of_instance(place: Option<SortIndex>) -> Option<u64>
-    ensures { IfSome result (λ k. place ≡ Some (record { sort = Instance; index = k })) }
+    ensures found { IfSome result (λ k. place ≡ Some (record { sort = Instance; index = k })) }
+    ensures none { IfNone result (Never (λ (k : ℕ). place ≡ Some (record { sort = Instance; index = k }))) }
 {
     match place {
         Some(place) => index_if_instance(place.sort, place.index),
@@ -184,7 +201,8 @@ fn index_of_instance(place: Option<SortIndex>) -> Option<u64>
 
 /// The index, if the sort is that of instances.
 fn index_if_instance(sort: Sort, index: u64) -> Option<u64>
-    ensures { IfSome result (λ k. (sort ≡ Instance) × (k ≡ index)) }
+    ensures found { IfSome result (λ k. (sort ≡ Instance) × (k ≡ index)) }
+    ensures none { IfNone result (sort ≡ Instance → ⊥) }
 {
     match sort {
         Sort::Instance => Some(index),
@@ -205,7 +223,7 @@ pub fn describe_alone(
 ) -> Result<Description, WriteError>
     ensures describes { DescribesSimply types.now kind scope.old scope.new result }
     ensures own { HasEntry kind → DescribesEntry types.now scope.old scope.new result }
-    ensures refused { Stands types.now kind → IfErr result (RefusedItem types.now kind scope.new) }
+    ensures refused { Stands types.now kind → IfErr result (RefusedItem types.now kind scope.old scope.new) }
 {
     let used = UsedTypes::new(alloc);
     let around = Around {
@@ -224,7 +242,7 @@ fn describe_type(
 ) -> Result<Description, WriteError>
     ensures describes { DescribesSimply types.now (ItemKind.Ty ty) scope.old scope.new result }
     ensures own { IsNoResource ty → DescribesEntry types.now scope.old scope.new result }
-    ensures refused { Stands types.now (ItemKind.Ty ty) → IfErr result (RefusedType types.now ty scope.new) }
+    ensures refused { Stands types.now (ItemKind.Ty ty) → IfErr result (RefusedTypeApart types.now ty scope.old scope.new) }
 {
     types.see_acyclic();
     match ty {
@@ -245,8 +263,9 @@ impl ImportScope {
     /// No world is begun.
     pub fn new(alloc: Global) -> Self
         ensures scope { (w : Worlds) (c : Collection) (outer : List Scope) → IsItemScope w c outer nothing_inside result.scope }
-        ensures used { result.used.all.items ≡ [] }
+        ensures used { result.used ≡ [] }
         ensures places { result.places.items ≡ [] }
+        ensures found { result.found ≡ [] }
     {
         ImportScope {
             scope: ItemScope::new(alloc),
@@ -262,6 +281,8 @@ impl ImportScope {
         ensures scope { self.new.scope ≡ self.old.scope }
         ensures used { self.new.used ≡ self.old.used }
         ensures places { OnOk result (NoneWritten self.new.places.items) }
+        ensures found { OnOk result (FindsFirst self.new.found (self.old.found ++ import_places all.entry)) }
+        ensures many { OnOk result (length self.new.places.items ≡ length (all_imports all.entry)) }
     {
         add_called(alloc, all, &mut self.found)?;
         add_places(alloc, all, &mut self.found)?;
@@ -296,7 +317,11 @@ impl ImportScope {
         name: TypeName<'_>,
         item: ItemKind,
     ) -> Result<Option<u64>, WriteError>
-        ensures { FindsSource all.entry name.entry.name.now item self.now result }
+        ensures reads { FindsSource all.entry name.entry.name.now item self.now result }
+        ensures found { FindsImported all.entry self.now name.entry.identifier.now name.entry.name.now item result }
+        ensures none { Misses all.entry.types.now item
+            (IsImportedAs all.entry self.now name.entry.identifier.now name.entry.name.now item) result }
+        ensures refused { IfErr result (λ e. e ≡ WriteError.Memory) }
     {
         all.types.see_acyclic();
         let Some(at) = self.found.get(name.identifier) else {
@@ -318,7 +343,12 @@ impl ImportScope {
         name: TypeName<'_>,
         item: ItemKind,
     ) -> Result<u64, WriteError>
-        ensures { (world : WorldId) → AddsUsed types.now world instance name.entry.name.now item self.old self.new result }
+        ensures adds { (world : WorldId) → AddsUsed types.now world instance name.entry.name.now item self.old self.new result }
+        ensures used { IfOk result (λ k. self.new.used ≡ put_used self.old.used name.entry.identifier.now name.entry.name.now
+            (record { item = item; index = k })) }
+        ensures places { self.new.places ≡ self.old.places }
+        ensures found { self.new.found ≡ self.old.found }
+        ensures refused { IfErr result (λ e. e ≡ WriteError.Memory) }
     {
         types.see_acyclic();
         let index = self.scope.add_alias(alloc, instance, name.name)?;
@@ -334,7 +364,11 @@ impl ImportScope {
         used: Use<'_>,
         item: ItemKind,
     ) -> Result<Option<u64>, WriteError>
-        ensures { AliasesUse all.entry item self.old self.new result }
+        ensures aliases { AliasesUse all.entry item self.old self.new result }
+        ensures none { Misses all.entry.types.now item (IsFoundFor all.entry self.old used.entry item) result }
+        ensures refused { IfErr result (RefusedUse all.entry.types.now used.entry) }
+        ensures places { self.new.places ≡ self.old.places }
+        ensures found { self.new.found ≡ self.old.found }
     {
         let Some(identifier) = identifier(all.types, used.interface) else {
             return Err(WriteError::Unwritable);
@@ -358,7 +392,12 @@ impl ImportScope {
         name: TypeName<'_>,
         item: ItemKind,
     ) -> Result<Option<u64>, WriteError>
-        ensures { AliasesUse all.entry item self.old self.new result }
+        ensures aliases { AliasesUse all.entry item self.old self.new result }
+        ensures none { Misses all.entry.types.now item
+            (IsImportedAs all.entry self.old name.entry.identifier.now name.entry.name.now item) result }
+        ensures places { self.new.places ≡ self.old.places }
+        ensures found { self.new.found ≡ self.old.found }
+        ensures refused { IfErr result (λ e. e ≡ WriteError.Memory) }
     {
         let source = self.source_of(alloc, all, name, item)?;
         match source {
@@ -542,7 +581,7 @@ impl ImportScope {
     ) -> Result<Description, WriteError>
         ensures describes { DescribesThere types.now kind self.old self.new result }
         ensures own { HasEntry kind → DescribesEntry types.now self.old.scope self.new.scope result }
-        ensures refused { Stands types.now kind → IfErr result (RefusedItem types.now kind self.new.scope) }
+        ensures refused { Stands types.now kind → IfErr result (RefusedItem types.now kind self.old.scope self.new.scope) }
     {
         let around = Around {
             used: &self.used,
@@ -562,7 +601,8 @@ impl ImportScope {
     ) -> Result<Description, WriteError>
         ensures describes { DescribesOther types.now (ItemKind.Ty ty) self.old other.old self.new other.new result }
         ensures own { IsNoResource ty → DescribesOwn types.now self.old.scope other.old self.new.scope result }
-        ensures refused { Stands types.now (ItemKind.Ty ty) → IfErr result (RefusedType types.now ty self.new.scope) }
+        ensures refused { Stands types.now (ItemKind.Ty ty)
+            → IfErr result (RefusedTypeApart types.now ty (with_known other.old self.old.scope) self.new.scope) }
         ensures kept { self.new.scope.types.known ≡ self.old.scope.types.known }
     {
         self.scope.types.exchange(other);
@@ -693,15 +733,15 @@ impl ImportScope {
         }
     }
 
-    /// Writes an export of a component type.
+    /// Writes an export of a component type; its index.
     #[cycle(types)]
     pub(crate) fn export(
         &mut self,
         alloc: Global,
         all: Importing<'_>,
         item: Item<'_>,
-    ) -> Result<(), WriteError>
-        ensures { ExportsThere all.entry item.entry self.old self.new result }
+    ) -> Result<u64, WriteError>
+        ensures { ExportsIndexed all.entry item.entry self.old self.new result }
     {
         self.prepare(alloc, all, item.kind)?;
         let around = Around {
@@ -709,5 +749,67 @@ impl ImportScope {
             depth: 0,
         };
         export_item(alloc, &mut self.scope, all.types, around, item)
+    }
+
+    /// Makes aliases of the types of an exported instance, which stand in place of those of the imported one.
+    pub(crate) fn alias_exported(
+        &mut self,
+        alloc: Global,
+        all: Importing<'_>,
+        identifier: &str,
+        id: InterfaceId,
+        instance: u64,
+    ) -> Result<(), WriteError>
+        ensures { AliasesInstance all.entry id instance self.old self.new result }
+    {
+        for at in 0..export_count(all.types, id) {
+            self.alias_export_at(alloc, all, identifier, id, at, instance)?;
+        }
+        Ok(())
+    }
+
+    /// Makes an alias of the export at a place of an exported instance, if it is a type that can be used.
+    fn alias_export_at(
+        &mut self,
+        alloc: Global,
+        all: Importing<'_>,
+        identifier: &str,
+        id: InterfaceId,
+        at: usize,
+        instance: u64,
+    ) -> Result<(), WriteError>
+        requires { AreDistinct (names_of (exports_of all.types.now id)) }
+        ensures { AliasesInstance all.entry id instance self.old self.new result }
+    {
+        all.types.see_acyclic();
+        match export_at(all.types, id, at) {
+            Some(own) => {
+                let name = TypeName {
+                    identifier,
+                    name: own.name,
+                };
+                self.alias_own(alloc, all, name, own.kind, instance)
+            }
+            None => Ok(()),
+        }
+    }
+
+    /// Makes an alias of what an instance exports, if it is a type that can be used.
+    fn alias_own(
+        &mut self,
+        alloc: Global,
+        all: Importing<'_>,
+        name: TypeName<'_>,
+        item: ItemKind,
+        instance: u64,
+    ) -> Result<(), WriteError>
+        requires { Stands all.types.now item }
+        ensures { AliasesSource all.entry instance name.entry.name.now item self.old self.new result }
+    {
+        all.types.see_acyclic();
+        if is_used_kind(item) {
+            let _ = self.add_used(alloc, all.types, instance, name, item)?;
+        }
+        Ok(())
     }
 }

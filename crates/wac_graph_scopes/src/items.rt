@@ -9,13 +9,14 @@ ghost use Rattle.wac_types_base.specs.Entries.{Name, names_of, has_name, put_nam
 ghost use Rattle.wac_types_base.specs.Collection.{Stands};
 ghost use Rattle.wac_types_fit.specs.Trees.{IsInside, tree_in};
 ghost use Rattle.wac_graph_bytes.specs.Typing.{Worlds, Scope, nothing_inside};
+ghost use Rattle.wac_graph_scopes.specs.Used.{IsUsedAs};
 ghost use Rattle.wac_graph_scopes.specs.Parts.{exports_of, uses_of, IsUsedKind, IsFresh};
 ghost use Rattle.wac_graph_scopes.specs.declared.fault.WriteError.{WriteError};
 ghost use Rattle.wac_graph_scopes.specs.Scopes.{FindsResource};
 ghost use Rattle.wac_graph_scopes.specs.Refusals.{IsUnnamed, RefusedThere};
-ghost use Rattle.wac_graph_scopes.specs.ItemRefusals.{RefusedModule, RefusedType, RefusedItem};
+ghost use Rattle.wac_graph_scopes.specs.ItemRefusals.{RefusedModule, RefusedType, RefusedItem, RefusedUse};
 ghost use Rattle.wac_graph_scopes.specs.Items.{IsItemScope, AddsType, EntersType, AddsCore, count_of, with_count, AddsItem, AliasesOuter, AliasesExport, described_as, Notes};
-ghost use Rattle.wac_graph_scopes.specs.Items.{FindsUsed, AliasesUsed, ExportsTaken, HasNameAt, ExportsUsed, TakesUse, TakesNamed, TakesAt, BeginsInstance, KeepsWriting, ExportsDescribed, ExportsFresh};
+ghost use Rattle.wac_graph_scopes.specs.Items.{FindsUsed, FindsUnder, Misses, IsUsedBy, AliasesUsed, ExportsTaken, NotTaken, HasNameAt, ExportsUsed, TakesUse, TakesNamed, TakesAt, BeginsInstance, KeepsWriting, ExportsDescribed, ExportsFresh};
 ghost use Rattle.wac_graph_scopes.specs.Items.{StatesType, StatesTypeItem, StatesModule, DescribesSimply, MakesItem, HasEntry, DescribesEntry, StatesItem, StatesClosed, DescribesItem, ExportsOne, WritesOtherAt, WritesOthers, WritesInstance, MakesInstance};
 
 use crate::core_items::module_declarations;
@@ -27,7 +28,7 @@ use crate::parts::{
 use crate::scope::{TypeScope, next_of};
 use crate::used::{TypeName, UsedIndex, UsedTypes};
 use crate::value::{define_value, fits_in, note_resource, note_value, push_func};
-use crate::worlds::component_type;
+use crate::worlds::{component_type, package_type};
 use std::alloc::{AllocError, Global};
 use std::mem;
 use wac_graph_bytes::{Alias, Declaration, Description, Sort};
@@ -169,7 +170,8 @@ impl ItemScope {
 
     /// Adds an alias of a type that stands so many scopes further out.
     fn add_outer(&mut self, depth: u64, index: u64) -> Result<u64, WriteError>
-        ensures { AliasesOuter depth index self.old self.new result }
+        ensures aliases { AliasesOuter depth index self.old self.new result }
+        ensures refused { IfErr result (λ e. e ≡ WriteError.Memory) }
     {
         self.add_type(Declaration::Alias(Alias::Outer(Sort::Ty, depth, index)))
     }
@@ -181,7 +183,8 @@ impl ItemScope {
         instance: u64,
         name: &str,
     ) -> Result<u64, WriteError>
-        ensures { AliasesExport instance name.now self.old self.new result }
+        ensures aliases { AliasesExport instance name.now self.old self.new result }
+        ensures refused { IfErr result (λ e. e ≡ WriteError.Memory) }
     {
         let name = String::from_str(alloc, name)?;
         self.add_type(Declaration::Alias(Alias::Export(Sort::Ty, instance, name)))
@@ -235,7 +238,11 @@ pub(crate) fn find_used(
     name: TypeName<'_>,
     item: ItemKind,
 ) -> Result<Option<u64>, WriteError>
-    ensures { FindsUsed types.now all.now.all.items item result }
+    ensures reads { FindsUsed types.now all.now item result }
+    ensures found { FindsUnder types.now all.now name.entry.identifier.now name.entry.name.now item result }
+    ensures none { Misses types.now item
+        (IsUsedAs types.now all.now name.entry.identifier.now name.entry.name.now item) result }
+    ensures refused { IfErr result (λ e. e ≡ WriteError.Memory) }
 {
     types.see_acyclic();
     match all.get(name) {
@@ -255,7 +262,9 @@ pub(crate) fn exports_taken(
     name: &str,
     item: ItemKind,
 ) -> Result<bool, WriteError>
-    ensures { ExportsTaken types.now id name.now item result }
+    ensures yes { ExportsTaken types.now id name.now item result }
+    ensures no { NotTaken types.now id name.now item result }
+    ensures refused { IfErr result (λ e. e ≡ WriteError.Memory) }
 {
     types.see_acyclic();
     match export_named(types, id, name) {
@@ -273,7 +282,9 @@ fn alias_around(
     used: Use<'_>,
     item: ItemKind,
 ) -> Result<Option<u64>, WriteError>
-    ensures { AliasesUsed types.now around.entry item scope.old scope.new result }
+    ensures aliases { AliasesUsed types.now around.entry item scope.old scope.new result }
+    ensures none { Misses types.now item (IsUsedBy types.now around.entry.used.now used.entry item) result }
+    ensures refused { IfErr result (RefusedUse types.now used.entry) }
 {
     let Some(identifier) = identifier(types, used.interface) else {
         return Err(WriteError::Unwritable);
@@ -396,20 +407,21 @@ fn take_uses(
     Ok(given)
 }
 
-/// Exports an item that is so described.
+/// Exports an item that is so described; its index.
 fn export_described(
     alloc: Global,
     scope: &mut ItemScope,
     types: &Types,
     item: Item<'_>,
     description: Description,
-) -> Result<(), WriteError>
+) -> Result<u64, WriteError>
     ensures { ExportsDescribed types.now item.entry description scope.old scope.new result }
 {
     let text = String::from_str(alloc, item.name)?;
     let declaration = Declaration::Export(text, description);
     let index = scope.add_item(declaration, description)?;
-    scope.note(alloc, types, item.kind, index)
+    scope.note(alloc, types, item.kind, index)?;
+    Ok(index)
 }
 
 /// Exports a resource under its own name.
@@ -422,10 +434,11 @@ pub(crate) fn export_resource(
     ensures { ExportsFresh types.now item.entry scope.old scope.new result }
 {
     types.see_acyclic();
-    export_described(alloc, scope, types, item, Description::Resource)
+    let _ = export_described(alloc, scope, types, item, Description::Resource)?;
+    Ok(())
 }
 
-/// Exports an item that is no resource under its own name.
+/// Exports an item that is no resource under its own name; its index.
 #[cycle(types)]
 pub(crate) fn export_item(
     alloc: Global,
@@ -433,7 +446,7 @@ pub(crate) fn export_item(
     types: &Types,
     around: Around<'_>,
     item: Item<'_>,
-) -> Result<(), WriteError>
+) -> Result<u64, WriteError>
     ensures { ExportsOne types.now around.entry item.entry scope.old scope.new result }
 {
     let description = describe(alloc, scope, types, around, item.kind)?;
@@ -529,7 +542,7 @@ fn export_other_at(
 {
     match other_at(all.types, all.id, given, at) {
         Some(item) => {
-            export_item(alloc, scope, all.types, all.around, item)?;
+            let _ = export_item(alloc, scope, all.types, all.around, item)?;
             Ok(add_name(alloc, given, item.name)?)
         }
         None => Ok(()),
@@ -612,6 +625,38 @@ fn push_instance_type(
     scope.add_type(Declaration::InstanceType(declarations))
 }
 
+/// The index of the type of a package's component, which is written.
+fn push_package_type(
+    alloc: Global,
+    scope: &mut ItemScope,
+    types: &Types,
+    id: WorldId,
+) -> Result<u64, WriteError>
+    ensures { StatesClosed types.now (ItemKind.Component id) scope.old scope.new result }
+{
+    let declarations = package_type(alloc, types, id)?;
+    scope.add_type(Declaration::ComponentType(declarations))
+}
+
+/// What a package's component is, whose exports are over those exports that they use; its type is written.
+///
+/// # Errors
+///
+/// `WriteError` where its type cannot be written, or memory is wanting.
+pub fn describe_package(
+    alloc: Global,
+    scope: &mut ItemScope,
+    types: &Types,
+    world: WorldId,
+) -> Result<Description, WriteError>
+    ensures { Stands types.now (ItemKind.Component world)
+        → DescribesSimply types.now (ItemKind.Component world) scope.old scope.new result }
+{
+    types.see_acyclic();
+    let index = push_package_type(alloc, scope, types, world)?;
+    Ok(Description::Component(index))
+}
+
 /// The index of a component's type, which is written.
 #[cycle(types)]
 fn push_component_type(
@@ -666,7 +711,7 @@ pub(crate) fn push_func_type(
     ensures stands { IfOk result (λ _. Stands types.now (ItemKind.Func id)) }
     ensures states { StatesType types.now (ItemKind.Func id) scope.old scope.new result }
     ensures entry { MakesItem types.now scope.old scope.new result }
-    ensures refused { RefusedThere types.now (ItemKind.Func id) scope.new.types result }
+    ensures refused { RefusedThere types.now (ItemKind.Func id) scope.old.types scope.new.types result }
 {
     if !types.has(ItemKind::Func(id)) {
         return Err(WriteError::Unwritable);
@@ -683,7 +728,7 @@ fn push_type(
 ) -> Result<u64, WriteError>
     requires { Stands types.now (ItemKind.Ty ty) }
     ensures states { StatesTypeItem types.now ty scope.old scope.new result }
-    ensures refused { IfErr result (RefusedType types.now ty scope.new) }
+    ensures refused { IfErr result (RefusedType types.now ty scope.old scope.new) }
 {
     types.see_acyclic();
     match ty {
@@ -702,7 +747,7 @@ fn push_value_type(
     ty: ValueType,
 ) -> Result<u64, WriteError>
     ensures states { StatesType types.now (ItemKind.Value ty) scope.old scope.new result }
-    ensures refused { RefusedThere types.now (ItemKind.Value ty) scope.new.types result }
+    ensures refused { RefusedThere types.now (ItemKind.Value ty) scope.old.types scope.new.types result }
 {
     define_value(alloc, &mut scope.types, types, ty)
 }
@@ -716,7 +761,7 @@ fn describe_simple(
 ) -> Result<Description, WriteError>
     requires { Stands types.now kind }
     ensures describes { DescribesSimply types.now kind scope.old scope.new result }
-    ensures refused { IfErr result (RefusedItem types.now kind scope.new) }
+    ensures refused { IfErr result (RefusedItem types.now kind scope.old scope.new) }
 {
     types.see_acyclic();
     match kind {
@@ -758,7 +803,7 @@ pub(crate) fn describe(
 ) -> Result<Description, WriteError>
     ensures describes { DescribesItem types.now around.entry kind scope.old scope.new result }
     ensures own { HasEntry kind → DescribesEntry types.now scope.old scope.new result }
-    ensures refused { Stands types.now kind → IfErr result (RefusedItem types.now kind scope.new) }
+    ensures refused { Stands types.now kind → IfErr result (RefusedItem types.now kind scope.old scope.new) }
 {
     if !types.has(kind) {
         return Err(WriteError::Unwritable);

@@ -4,13 +4,14 @@ ghost use Rattle.std.specs.Prelude.{◌≡◌, ◌↔◌, ◌<◌, ℕ, [], true
 ghost use Rattle.wac_types_base.specs.declared.item.ItemKind.{ItemKind};
 ghost use Rattle.wac_types_base.specs.Entries.{names_of, AreDistinct};
 ghost use Rattle.wac_types_base.specs.Collection.{Stands};
-ghost use Rattle.wac_graph_scopes.specs.Imports.{all_imports};
+ghost use Rattle.wac_graph_scopes.specs.Imports.{all_imports, all_exports};
+ghost use Rattle.wac_graph_scopes.specs.declared.order.Turn.TheVariants as TheTurn;
 ghost use Rattle.wac_graph_scopes.specs.Orders.{IsOrder, IsBegun, Puts, Marks, Leaves, IsDone, AreDone, IsSource, IsEarly, IsTurnAt, AreTurns, EarlyFirst, SourcesFirst};
 
 use crate::imports::Importing;
 use crate::parts::{
     Item, Use, export_at, export_count, identifier, import_at, import_count, interface_of,
-    is_fresh, use_at, use_count, world_use_named,
+    is_fresh, use_at, use_count, world_export_at, world_export_count, world_use_named,
 };
 use std::alloc::{AllocError, Global};
 use std::mem;
@@ -31,13 +32,13 @@ enum Turn {
 
 /// The order as far as it stands.
 #[derive(Drop)]
-struct Order<'a> {
+struct Order {
     alloc: Global,
-    all: Importing<'a>,
-    found: &'a NamedMap<usize>,
-    /// When it is the turn of each import.
+    /// Of each place, those that it needs.
+    needs: Vec<Vec<usize>>,
+    /// When it is the turn of each place.
     turns: Vec<Turn>,
-    /// Of each import, whether it has a place in the order, or those that it uses are being put there.
+    /// Of each place, whether it is in the order, or those that it needs are being put there.
     begun: Vec<bool>,
     order: Vec<usize>,
 }
@@ -152,25 +153,48 @@ fn none_begun(alloc: Global, count: usize) -> Result<Vec<bool>, AllocError>
     Ok(begun)
 }
 
-impl<'a> Order<'a> {
-    fn new(
-        alloc: Global,
-        all: Importing<'a>,
-        found: &'a NamedMap<usize>,
-    ) -> Result<Self, AllocError>
-        ensures distinct { AreDistinct (names_of (all_imports all.entry)) }
-        ensures turns { IfOk result (λ o. length o.turns.items ≡ length (all_imports all.entry)) }
-        ensures early { IfOk result (λ o. AreTurns all.entry o.turns.items) }
+/// Where the imports stand that the one at a place uses.
+fn needs_of_import(
+    alloc: Global,
+    all: Importing<'_>,
+    found: &NamedMap<usize>,
+    at: usize,
+) -> Result<Vec<usize>, AllocError> {
+    let mut needs = Vec::new(alloc);
+    let types = all.types;
+    if let Some(import) = import_at(types, all.world, at) {
+        if let Some(used) = world_use_named(types, all.world, import.name) {
+            add_use(types, found, used, &mut needs)?;
+        }
+        add_needs(types, found, import.kind, &mut needs)?;
+    }
+    Ok(needs)
+}
+
+/// Of each import, where those stand that it uses.
+fn needs_of_imports(
+    alloc: Global,
+    all: Importing<'_>,
+    found: &NamedMap<usize>,
+) -> Result<Vec<Vec<usize>>, AllocError> {
+    let mut needs = Vec::new(alloc);
+    for at in 0..import_count(all.types, all.world) {
+        needs.push(needs_of_import(alloc, all, found, at)?)?;
+    }
+    Ok(needs)
+}
+
+impl Order {
+    fn new(alloc: Global, needs: Vec<Vec<usize>>, turns: Vec<Turn>) -> Result<Self, AllocError>
+        ensures turns { IfOk result (λ o. o.turns ≡ turns) }
         ensures len { IfOk result (λ o. length o.begun.items ≡ length o.turns.items) }
         ensures none { IfOk result (λ o. (k : ℕ) → IsBegun o.begun.items k → ⊥) }
         ensures order { IfOk result (λ o. o.order.items ≡ []) }
     {
-        let turns = turns_of(alloc, all)?;
         let begun = none_begun(alloc, turns.len())?;
         Ok(Order {
             alloc,
-            all,
-            found,
+            needs,
             turns,
             begun,
             order: Vec::new(alloc),
@@ -192,21 +216,24 @@ impl<'a> Order<'a> {
         }
     }
 
-    /// Where the imports stand that the one at a place uses.
-    fn needs_of(&self, at: usize) -> Result<Vec<usize>, AllocError> {
-        let mut needs = Vec::new(self.alloc);
-        let types = self.all.types;
-        if let Some(import) = import_at(types, self.all.world, at) {
-            if let Some(used) = world_use_named(types, self.all.world, import.name) {
-                add_use(types, self.found, used, &mut needs)?;
-            }
-            add_needs(types, self.found, import.kind, &mut needs)?;
+    /// One of those that a place needs.
+    fn need(&self, at: usize, which: usize) -> Option<usize> {
+        match self.needs.get(at) {
+            Some(needs) => needs.get(which).copied(),
+            None => None,
         }
-        Ok(needs)
     }
 
-    /// Puts the import at a place behind those that it uses. No path of uses is longer than there are imports, so
-    /// the depth that is left lasts.
+    /// How many a place needs.
+    fn need_count(&self, at: usize) -> usize {
+        match self.needs.get(at) {
+            Some(needs) => needs.len(),
+            None => 0,
+        }
+    }
+
+    /// Puts a place behind those that it needs. No path of needs is longer than there are places, so the depth that is
+    /// left lasts.
     #[cycle(putting)]
     fn put(&mut self, at: usize, depth: usize) -> Result<(), AllocError>
         ensures puts { OnOk result (Puts self.old.begun.items self.new.begun.items self.old.order.items self.new.order.items) }
@@ -221,20 +248,31 @@ impl<'a> Order<'a> {
         Ok(())
     }
 
-    /// Puts those that an import uses.
+    /// Puts those that a place needs.
     #[cycle(putting)]
     fn put_needs(&mut self, at: usize, depth: usize) -> Result<(), AllocError>
         ensures puts { OnOk result (Puts self.old.begun.items self.new.begun.items self.old.order.items self.new.order.items) }
         ensures turns { self.new.turns.items ≡ self.old.turns.items }
     {
-        let needs = self.needs_of(at)?;
-        for need in &needs {
-            self.put(*need, depth)?;
+        for which in 0..self.need_count(at) {
+            self.put_need(at, which, depth)?;
         }
         Ok(())
     }
 
-    /// Whether it is the turn of the import at a place.
+    /// Puts one of those that a place needs.
+    #[cycle(putting)]
+    fn put_need(&mut self, at: usize, which: usize, depth: usize) -> Result<(), AllocError>
+        ensures puts { OnOk result (Puts self.old.begun.items self.new.begun.items self.old.order.items self.new.order.items) }
+        ensures turns { self.new.turns.items ≡ self.old.turns.items }
+    {
+        match self.need(at, which) {
+            Some(need) => self.put(need, depth),
+            None => Ok(()),
+        }
+    }
+
+    /// Whether it is the turn of a place.
     fn is_turn(&self, at: usize, turn: Turn) -> bool
         ensures { slice_get self.now.turns.items at ≡ Some turn → IsTrue result }
     {
@@ -244,7 +282,7 @@ impl<'a> Order<'a> {
         }
     }
 
-    /// Puts the import at a place, if it is its turn.
+    /// Puts a place in the order, if it is its turn.
     fn put_at(&mut self, turn: Turn, at: usize) -> Result<(), AllocError>
         ensures puts { OnOk result (Puts self.old.begun.items self.new.begun.items self.old.order.items self.new.order.items) }
         ensures begun { OnOk result (IsDone self.old.turns.items turn self.old.begun.items self.new.begun.items at) }
@@ -296,7 +334,7 @@ pub struct ImportOrder {
 }
 
 /// Puts all in order: sources, and then the others.
-fn put_sources_and_others(order: &mut Order<'_>) -> Result<ImportOrder, AllocError>
+fn put_sources_and_others(order: &mut Order) -> Result<ImportOrder, AllocError>
     requires len { length order.old.begun.items ≡ length order.old.turns.items }
     requires none { (k : ℕ) → IsBegun order.old.begun.items k → ⊥ }
     requires empty { order.old.order.items ≡ [] }
@@ -309,15 +347,98 @@ fn put_sources_and_others(order: &mut Order<'_>) -> Result<ImportOrder, AllocErr
 }
 
 /// The order in which imports are written.
-pub(crate) fn order_of<'a>(
+pub(crate) fn order_of(
     alloc: Global,
-    all: Importing<'a>,
-    found: &'a NamedMap<usize>,
+    all: Importing<'_>,
+    found: &NamedMap<usize>,
 ) -> Result<ImportOrder, AllocError>
     ensures order { IfOk result (λ o. IsOrder (length (all_imports all.entry)) o.sources.items o.others.items) }
     ensures sources { IfOk result (λ o. SourcesFirst all.entry o.sources.items) }
     ensures distinct { AreDistinct (names_of (all_imports all.entry)) }
 {
-    let mut order = Order::new(alloc, all, found)?;
+    let turns = turns_of(alloc, all)?;
+    let needs = needs_of_imports(alloc, all, found)?;
+    let mut order = Order::new(alloc, needs, turns)?;
     put_sources_and_others(&mut order)
+}
+
+/// So many places whose turn is the last.
+fn last_turns(alloc: Global, count: usize) -> Result<Vec<Turn>, AllocError>
+    ensures len { IfOk result (λ v. length v.items ≡ count) }
+    ensures last { IfOk result (λ v. (k : ℕ) → k < count → slice_get v.items k ≡ Some TheTurn.Others) }
+{
+    let mut turns = Vec::new(alloc);
+    for _at in 0..count {
+        turns.push(Turn::Others)?;
+    }
+    Ok(turns)
+}
+
+/// Places one after another, but each behind those that it needs, which are given of each.
+pub fn order_by_needs(alloc: Global, needs: Vec<Vec<usize>>) -> Result<Vec<usize>, AllocError>
+    ensures { IfOk result (λ v. IsOrder (length needs.items) [] v.items) }
+{
+    let turns = last_turns(alloc, needs.len())?;
+    let mut order = Order::new(alloc, needs, turns)?;
+    let all = order.put_both(Turn::Types, Turn::Others)?;
+    Ok(all)
+}
+
+/// Where the exports of a world stand, by their names.
+fn export_places(alloc: Global, all: Importing<'_>) -> Result<NamedMap<usize>, AllocError> {
+    let mut places = NamedMap::new(alloc);
+    for at in 0..world_export_count(all.types, all.world) {
+        if let Some(item) = world_export_at(all.types, all.world, at) {
+            let _ = places.insert(String::from_str(alloc, item.name)?, at)?;
+        }
+    }
+    Ok(places)
+}
+
+/// Adds where those of a list stand that an item uses.
+pub fn needs_of_item(
+    alloc: Global,
+    types: &Types,
+    found: &NamedMap<usize>,
+    kind: ItemKind,
+) -> Result<Vec<usize>, AllocError> {
+    let mut needs = Vec::new(alloc);
+    add_needs(types, found, kind, &mut needs)?;
+    Ok(needs)
+}
+
+/// Where the exports stand that the one at a place uses.
+fn needs_of_export(
+    alloc: Global,
+    all: Importing<'_>,
+    found: &NamedMap<usize>,
+    at: usize,
+) -> Result<Vec<usize>, AllocError> {
+    match world_export_at(all.types, all.world, at) {
+        Some(item) => needs_of_item(alloc, all.types, found, item.kind),
+        None => Ok(Vec::new(alloc)),
+    }
+}
+
+/// Of each export, where those stand that it uses.
+fn needs_of_exports(alloc: Global, all: Importing<'_>) -> Result<Vec<Vec<usize>>, AllocError>
+    ensures len { IfOk result (λ v. length v.items ≡ length (all_exports all.entry)) }
+    ensures distinct { AreDistinct (names_of (all_exports all.entry)) }
+{
+    let count = world_export_count(all.types, all.world);
+    let found = export_places(alloc, all)?;
+    let mut needs = Vec::new(alloc);
+    for at in 0..count {
+        needs.push(needs_of_export(alloc, all, &found, at)?)?;
+    }
+    Ok(needs)
+}
+
+/// The order in which exports are written: as they are listed, but each behind those that it uses.
+pub(crate) fn export_order(alloc: Global, all: Importing<'_>) -> Result<Vec<usize>, AllocError>
+    ensures order { IfOk result (λ v. IsOrder (length (all_exports all.entry)) [] v.items) }
+    ensures distinct { AreDistinct (names_of (all_exports all.entry)) }
+{
+    let needs = needs_of_exports(alloc, all)?;
+    order_by_needs(alloc, needs)
 }

@@ -316,10 +316,26 @@ pub fn world_export_at(types: &Types, id: WorldId, at: usize) -> Option<Item<'_>
     }
 }
 
+/// The world's export of that name.
+pub fn world_export_named(types: &Types, id: WorldId, name: &str) -> Option<ItemKind>
+    ensures value { result ≡ value_at (world_exports_of types.now id) name.now }
+    ensures stands { IfSome result (Stands types.now) }
+{
+    types.see_acyclic();
+    if !types.has(ItemKind::Component(id)) {
+        return None;
+    }
+    let world = types.world(id);
+    match world.exports.get(name) {
+        Some(kind) => Some(*kind),
+        None => None,
+    }
+}
+
 // ---- uses
 
 /// Whether the item is a resource or a value type.
-fn is_used_kind(kind: ItemKind) -> bool
+pub(crate) fn is_used_kind(kind: ItemKind) -> bool
     ensures { IsTrue result ↔ IsUsedKind kind }
 {
     match kind {

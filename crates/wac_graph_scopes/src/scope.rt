@@ -1,9 +1,14 @@
 //! A scope of written types.
 
-ghost use Rattle.std.specs.Prelude.{◌≡◌, ◌+◌, ◌-◌, ◌^◌, ◌↔◌, min, List, IsTrue, string_bytes};
+ghost use Rattle.std.specs.Prelude.{◌≡◌, ◌+◌, ◌-◌, ◌^◌, ◌↔◌, min, List, [], ◌∷◌, ◌++◌, slice_get, Some, IfSome, IfNone, OnOk, IsTrue, nat_eq, ℕ, string_bytes};
 ghost use Rattle.wac_types_base.specs.Record.{Collection};
+ghost use Rattle.std.specs.Map.{lookup};
 ghost use Rattle.wac_types_base.specs.Entries.{value_at};
+ghost use Rattle.wac_types_base.specs.contracts.ids.DefinedTypeIdPartialEq.TheImpl.{eq-value};
+ghost use Rattle.wac_graph_scopes.specs.declared.scope.KnownType.{KnownType};
 ghost use Rattle.wac_graph_bytes.specs.Typing.{Worlds, Scope, nothing_inside};
+ghost use Rattle.wac_graph_scopes.specs.Prints.{ArePrints};
+ghost use Rattle.wac_graph_scopes.specs.Known.{ArePlaces, HasId, FindsPrint};
 ghost use Rattle.wac_graph_scopes.specs.Scopes.{AreKnown, IsScope, Exchanges, FindsType, Defines, MakesEntry, ExportsFunction, ExportsNewType, Remembers, FindsKnown, KnowsResource, NotesResource};
 
 use crate::prints::Prints;
@@ -18,6 +23,8 @@ use wac_types_base::{DefinedTypeId, NamedMap};
 pub struct KnownType {
     pub id: DefinedTypeId,
     pub index: u64,
+    /// Whether it has a name here.
+    pub named: bool,
 }
 
 /// The types of one collection that are written in a scope.
@@ -63,11 +70,49 @@ fn is_same_id(a: DefinedTypeId, b: DefinedTypeId) -> bool
 
 impl Places {
     /// Nothing is known.
-    pub(crate) fn new(alloc: Global) -> Self {
+    pub(crate) fn new(alloc: Global) -> Self
+        ensures prints { (c : Collection) → ArePrints c result.prints }
+    {
         Places {
             by_id: IndexMap::new(alloc),
             by_print: IndexMap::new(alloc),
             prints: Prints::new(alloc),
+        }
+    }
+
+    /// Where the type of an id stands.
+    fn place_of_id(&self, id: DefinedTypeId) -> Option<usize>
+        ensures { result ≡ lookup (eq-value.it id) self.now.by_id.entries }
+    {
+        match self.by_id.get(&id) {
+            Some(at) => Some(*at),
+            None => None,
+        }
+    }
+
+    /// Where the first type of a number stands that has a name here.
+    pub(crate) fn place_of_print(&self, print: u64) -> Option<usize>
+        ensures { result ≡ lookup (nat_eq print) self.now.by_print.entries }
+    {
+        match self.by_print.get(&print) {
+            Some(at) => Some(*at),
+            None => None,
+        }
+    }
+
+    /// Notes where a type of a number stands, unless one stands already.
+    pub(crate) fn note_print(&mut self, print: u64, at: usize) -> Result<(), AllocError>
+        ensures found { OnOk result (FindsPrint self.new.by_print.entries print) }
+        ensures keeps { (n : ℕ) → FindsPrint self.old.by_print.entries n → FindsPrint self.new.by_print.entries n }
+        ensures ids { self.new.by_id ≡ self.old.by_id }
+        ensures prints { self.new.prints ≡ self.old.prints }
+    {
+        match self.place_of_print(print) {
+            Some(_) => Ok(()),
+            None => {
+                let _ = self.by_print.insert(print, at)?;
+                Ok(())
+            }
         }
     }
 }
@@ -104,6 +149,7 @@ impl TypeScope {
     pub fn define(&mut self, ty: DefinedType) -> Result<u64, AllocError>
         ensures stands { Defines ty self.old self.new result }
         ensures entry { (c : Collection) → MakesEntry c self.old self.new result }
+        ensures known { self.new.known ≡ self.old.known }
         ensures resources { self.new.resources ≡ self.old.resources }
     {
         let index = self.types;
@@ -132,15 +178,16 @@ impl TypeScope {
         Ok(own)
     }
 
-    /// Remembers the index of a type; in place of an earlier one of that id.
-    pub fn remember(&mut self, id: DefinedTypeId, index: u64) -> Result<(), AllocError>
-        ensures known { Remembers id index self.old self.new result }
+    /// Remembers a type; in place of an earlier one of that id.
+    pub fn remember(&mut self, known: KnownType) -> Result<(), AllocError>
+        ensures known { Remembers known self.old self.new result }
+        ensures all { OnOk result (self.new.known.all.items ≡ self.old.known.all.items ++ known ∷ []) }
         ensures declarations { self.new.declarations ≡ self.old.declarations }
         ensures resources { self.new.resources ≡ self.old.resources }
     {
         let at = self.known.all.len();
-        self.known.places.by_id.insert(id, at)?;
-        self.known.all.push(KnownType { id, index })?;
+        self.known.places.by_id.insert(known.id, at)?;
+        self.known.all.push(known)?;
         Ok(())
     }
 
@@ -163,17 +210,21 @@ impl TypeScope {
 
     /// The index of a type that is written already.
     pub fn known(&self, id: DefinedTypeId) -> Option<u64>
-        ensures { (c : Collection) → FindsType c self.now id result }
+        ensures reads { (c : Collection) → FindsType c self.now id result }
+        ensures found { IfSome result (λ _. HasId self.now.known.all.items id) }
+        ensures none { (c : Collection) → ArePlaces c self.now.known → IfNone result (HasId self.now.known.all.items id → ⊥) }
     {
-        match self.known.places.by_id.get(&id) {
-            Some(at) => self.known_as(*at, id),
+        match self.known.places.place_of_id(id) {
+            Some(at) => self.known_as(at, id),
             None => None,
         }
     }
 
     /// The index of what is remembered at a place, if it is the type.
     fn known_as(&self, at: usize, id: DefinedTypeId) -> Option<u64>
-        ensures { (c : Collection) → FindsType c self.now id result }
+        ensures reads { (c : Collection) → FindsType c self.now id result }
+        ensures found { IfSome result (λ _. HasId self.now.known.all.items id) }
+        ensures none { IfNone result ((k : KnownType) → slice_get self.now.known.all.items at ≡ Some k → k.id ≡ id → ⊥) }
     {
         match self.known_at(at) {
             Some(known) => {
@@ -189,7 +240,8 @@ impl TypeScope {
 
     /// What is remembered at a place.
     pub(crate) fn known_at(&self, at: usize) -> Option<KnownType>
-        ensures { FindsKnown self.now result }
+        ensures reads { FindsKnown self.now result }
+        ensures item { result ≡ slice_get self.now.known.all.items at }
     {
         match self.known.all.get(at) {
             Some(known) => Some(*known),

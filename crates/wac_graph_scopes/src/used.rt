@@ -1,10 +1,15 @@
 //! Types of interfaces that stand in a scope.
 
-ghost use Rattle.std.specs.Prelude.{◌≡◌, ◌++◌, ◌∷◌, [], IfSome, OnOk};
-ghost use Rattle.wac_types_base.specs.Graph.{Among};
+ghost use Rattle.std.specs.Prelude.{◌≡◌, ◌&&◌, ◌++◌, [], OnOk, string_bytes};
+ghost use Rattle.std.specs.Cmp.{first_so, second_so};
+ghost use Rattle.std.specs.Cmp.Lexicographic.{bytes_decides, nat_list_eq_equiv};
+ghost use Rattle.std.specs.Hash as fed;
+ghost use Rattle.std.specs.Str.{bytes_eq};
+ghost use Rattle.wac_graph_scopes.specs.Used.{used_at, put_used};
 
-use indexmap::IndexMap;
+use indexmap::{Equivalent, IndexMap};
 use std::alloc::{AllocError, Global};
+use std::marker::Model;
 use wac_types_base::ItemKind;
 
 /// A type of an interface, and its index.
@@ -15,104 +20,72 @@ pub struct UsedIndex {
 }
 
 /// The name of a type of an interface: that of the interface, and its own there.
-#[derive(Clone, Copy)]
+#[derive(Clone, Copy, PartialEq, Eq, Hash)]
 pub struct TypeName<'a> {
     pub identifier: &'a str,
     pub name: &'a str,
 }
 
-/// Types of interfaces that stand in a scope, by the interfaces' identifiers and by their names there.
+impl<'a> Equivalent<(String, String)> for TypeName<'a> {
+    ghost equivalent = { λ q k. bytes_eq q.identifier.now (string_bytes k.0) && bytes_eq q.name.now (string_bytes k.1) };
+
+    ghost respects_hash = { λ q k h i. fed.str ((bytes_decides q.identifier.now (string_bytes k.0)).0 (first_so _ _ h) i)
+        ++ fed.str ((bytes_decides q.name.now (string_bytes k.1)).0 (second_so _ _ h) i) };
+
+    ghost respects_eq = { λ q x y h i. nat_list_eq_equiv.congr q.identifier.now (string_bytes x.0) (string_bytes y.0) (first_so _ _ h) i
+        && nat_list_eq_equiv.congr q.name.now (string_bytes x.1) (string_bytes y.1) (second_so _ _ h) i };
+
+    fn equivalent(&self, key: &(String, String)) -> bool {
+        self.identifier == key.0.as_str() && self.name == key.1.as_str()
+    }
+}
+
+/// Types of interfaces that stand in a scope, by the interfaces' identifiers and by their names there: seen as the list
+/// of them.
 #[derive(Drop)]
 pub struct UsedTypes {
     alloc: Global,
-    pub all: Vec<UsedIndex>,
-    /// Where each of them stands among all.
-    found: IndexMap<String, IndexMap<String, usize>>,
+    found: IndexMap<(String, String), UsedIndex>,
 }
 
-/// The place under a name.
-fn place_in(
-    found: &IndexMap<String, IndexMap<String, usize>>,
-    name: TypeName<'_>,
-) -> Option<usize> {
-    match found.get(name.identifier) {
-        Some(names) => match names.get(name.name) {
-            Some(at) => Some(*at),
-            None => None,
-        },
-        None => None,
-    }
-}
+impl Model for UsedTypes {
+    ghost use Rattle.std.specs.Prelude.{List};
+    ghost use Rattle.wac_types_base.specs.Entries.{Name, imports_in};
+    ghost use Rattle.wac_graph_scopes.specs.declared.used.UsedIndex.{UsedIndex};
 
-/// Adds a place under a name.
-fn add_place(
-    alloc: Global,
-    found: &mut IndexMap<String, IndexMap<String, usize>>,
-    name: TypeName<'_>,
-    at: usize,
-) -> Result<(), AllocError> {
-    let own = String::from_str(alloc, name.name)?;
-    match found.get_mut(name.identifier) {
-        Some(names) => {
-            let _ = names.insert(own, at)?;
-            Ok(())
-        }
-        None => add_first(alloc, found, name.identifier, own, at),
-    }
-}
+    ghost Value = { List ((Name × Name) × UsedIndex) };
 
-/// Adds the first place under an identifier.
-fn add_first(
-    alloc: Global,
-    found: &mut IndexMap<String, IndexMap<String, usize>>,
-    identifier: &str,
-    name: String,
-    at: usize,
-) -> Result<(), AllocError> {
-    let mut names = IndexMap::new(alloc);
-    let _ = names.insert(name, at)?;
-    let identifier = String::from_str(alloc, identifier)?;
-    let _ = found.insert(identifier, names)?;
-    Ok(())
+    ghost view = { λ m. imports_in m.found.entries };
 }
 
 impl UsedTypes {
     /// None stands there.
     pub fn new(alloc: Global) -> Self
-        ensures { result.all.items ≡ [] }
+        ensures { result ≡ [] }
     {
-        let all = Vec::new(alloc);
-        let found = IndexMap::new(alloc);
-        UsedTypes { alloc, all, found }
+        UsedTypes {
+            alloc,
+            found: IndexMap::new(alloc),
+        }
     }
 
     /// The type of that name.
     pub fn get(&self, name: TypeName<'_>) -> Option<UsedIndex>
-        ensures { IfSome result (λ u. Among u self.now.all.items) }
+        ensures { result ≡ used_at self.now name.entry.identifier.now name.entry.name.now }
     {
-        match place_in(&self.found, name) {
-            Some(at) => self.used_at(at),
-            None => None,
-        }
-    }
-
-    /// The type at a place among all.
-    fn used_at(&self, at: usize) -> Option<UsedIndex>
-        ensures { IfSome result (λ u. Among u self.now.all.items) }
-    {
-        match self.all.get(at) {
+        match self.found.get(name) {
             Some(used) => Some(*used),
             None => None,
         }
     }
 
-    /// Adds a type.
+    /// Adds a type, in place of an earlier one of that name.
     pub fn insert(&mut self, name: TypeName<'_>, used: UsedIndex) -> Result<(), AllocError>
-        ensures { OnOk result (self.new.all.items ≡ self.old.all.items ++ used ∷ []) }
+        ensures { OnOk result (self.new ≡ put_used self.old name.entry.identifier.now name.entry.name.now used) }
     {
-        let at = self.all.len();
-        add_place(self.alloc, &mut self.found, name, at)?;
-        self.all.push(used)?;
+        let identifier = String::from_str(self.alloc, name.identifier)?;
+        let own = String::from_str(self.alloc, name.name)?;
+        let _ = self.found.insert((identifier, own), used)?;
         Ok(())
     }
 }

@@ -1,6 +1,6 @@
 //! Types of values and functions in a scope of written types.
 
-ghost use Rattle.std.specs.Prelude.{◌≡◌, IfOk, IfErr, true};
+ghost use Rattle.std.specs.Prelude.{◌≡◌, IfNone, IfOk, IfErr, OnOk, true, false};
 ghost use Rattle.wac_types_base.specs.declared.item.ItemKind.{ItemKind};
 ghost use Rattle.wac_types_base.specs.declared.item.ValueType.{ValueType};
 ghost use Rattle.wac_types_base.specs.declared.item.«Type».{«Type» as TypeKind};
@@ -11,12 +11,14 @@ ghost use Rattle.wac_types_base.specs.Tree.{rigid, end};
 ghost use Rattle.wac_types_fit.specs.Trees.{tree_in, Fit};
 ghost use Rattle.wac_types_fit.specs.Checking.{value_in, HoldsValues, value_tree, place_trees};
 ghost use Rattle.wac_graph_scopes.specs.declared.fault.WriteError.{WriteError};
-ghost use Rattle.wac_graph_scopes.specs.Refusals.{IsUnnamed, Refused, RefusedPlace, RefusedThere};
-ghost use Rattle.wac_graph_scopes.specs.Scopes.{KeepsScope, FindsType, WritesValue, WritesDefined, WritesType, WritesPlaces, WritesPlace, WritesEntry, WritesIndex, MakesEntry, RemembersOne, NotesResource, NotesValue, FindsResource};
+ghost use Rattle.wac_graph_scopes.specs.Known.{type_tree, IsFound, DiffersAt, KeepsKnown};
+ghost use Rattle.wac_graph_scopes.specs.Refusals.{IsUnnamed, Refused, RefusedParts, RefusedApart, RefusedPlace, RefusedThere, RefusedThereApart};
+ghost use Rattle.wac_graph_scopes.specs.Scopes.{KeepsScope, FindsType, FindsTree, FindsAll, WritesValue, WritesDefined, WritesType, WritesPlaces, WritesPlace, WritesEntry, WritesIndex, MakesEntry, RemembersOne, NotesResource, NotesValue, FindsResource};
 
 use crate::entry::{entry_of, func_entry_of};
 use crate::fault::WriteError;
-use crate::scope::TypeScope;
+use crate::prints::value_of;
+use crate::scope::{KnownType, TypeScope};
 use std::alloc::Global;
 use wac_graph_bytes::{DefinedType as TypeEntry, ValueType as Written};
 use wac_types_base::replace::is_same;
@@ -43,7 +45,8 @@ fn define_own(scope: &mut TypeScope, types: &Types, id: ResourceId) -> Result<u6
     requires { Stands types.now (ItemKind.Value (ValueType.Own id)) }
     ensures writes { WritesIndex types.now (tree_in types.now (ItemKind.Value (ValueType.Own id))) scope.old scope.new result }
     ensures entry { MakesEntry types.now scope.old scope.new result }
-    ensures refused { IfErr result (Refused types.now (ItemKind.Value (ValueType.Own id)) scope.new) }
+    ensures refused { IfErr result (Refused types.now (ItemKind.Value (ValueType.Own id)) scope.old scope.new) }
+    ensures known { scope.new.known ≡ scope.old.known }
     ensures resources { scope.new.resources ≡ scope.old.resources }
 {
     types.see_acyclic();
@@ -55,7 +58,8 @@ fn define_own(scope: &mut TypeScope, types: &Types, id: ResourceId) -> Result<u6
 fn push_own(scope: &mut TypeScope, types: &Types, id: ResourceId) -> Result<Written, WriteError>
     requires { Stands types.now (ItemKind.Value (ValueType.Own id)) }
     ensures writes { WritesValue types.now (tree_in types.now (ItemKind.Value (ValueType.Own id))) scope.old scope.new result }
-    ensures refused { IfErr result (Refused types.now (ItemKind.Value (ValueType.Own id)) scope.new) }
+    ensures refused { IfErr result (Refused types.now (ItemKind.Value (ValueType.Own id)) scope.old scope.new) }
+    ensures known { scope.new.known ≡ scope.old.known }
     ensures resources { scope.new.resources ≡ scope.old.resources }
 {
     let index = define_own(scope, types, id)?;
@@ -68,7 +72,8 @@ fn define_borrow(scope: &mut TypeScope, types: &Types, id: ResourceId) -> Result
     ensures writes { WritesIndex types.now
         (tree_in types.now (ItemKind.Value (ValueType.Borrow id))) scope.old scope.new result }
     ensures entry { MakesEntry types.now scope.old scope.new result }
-    ensures refused { IfErr result (Refused types.now (ItemKind.Value (ValueType.Borrow id)) scope.new) }
+    ensures refused { IfErr result (Refused types.now (ItemKind.Value (ValueType.Borrow id)) scope.old scope.new) }
+    ensures known { scope.new.known ≡ scope.old.known }
     ensures resources { scope.new.resources ≡ scope.old.resources }
 {
     types.see_acyclic();
@@ -81,21 +86,12 @@ fn push_borrow(scope: &mut TypeScope, types: &Types, id: ResourceId) -> Result<W
     requires { Stands types.now (ItemKind.Value (ValueType.Borrow id)) }
     ensures writes { WritesValue types.now
         (tree_in types.now (ItemKind.Value (ValueType.Borrow id))) scope.old scope.new result }
-    ensures refused { IfErr result (Refused types.now (ItemKind.Value (ValueType.Borrow id)) scope.new) }
+    ensures refused { IfErr result (Refused types.now (ItemKind.Value (ValueType.Borrow id)) scope.old scope.new) }
+    ensures known { scope.new.known ≡ scope.old.known }
     ensures resources { scope.new.resources ≡ scope.old.resources }
 {
     let index = define_borrow(scope, types, id)?;
     Ok(Written::Index(index))
-}
-
-/// The value type in a place.
-fn value_of(place: Option<ItemKind>) -> Option<ValueType>
-    ensures { result ≡ value_in place }
-{
-    match place {
-        Some(ItemKind::Value(ty)) => Some(ty),
-        _ => None,
-    }
 }
 
 /// The written form of a value type.
@@ -108,7 +104,8 @@ pub(crate) fn push_value(
 ) -> Result<Written, WriteError>
     requires { Stands types.now (ItemKind.Value ty) }
     ensures writes { WritesValue types.now (tree_in types.now (ItemKind.Value ty)) scope.old scope.new result }
-    ensures refused { IfErr result (Refused types.now (ItemKind.Value ty) scope.new) }
+    ensures refused { IfErr result (Refused types.now (ItemKind.Value ty) scope.old scope.new) }
+    ensures known { OnOk result (KeepsKnown scope.old.known.all.items scope.new.known.all.items) }
     ensures resources { scope.new.resources ≡ scope.old.resources }
 {
     types.see_acyclic();
@@ -127,7 +124,8 @@ fn push_resolved(
     requires stands { Stands types.now (ItemKind.Value ty) }
     requires no_alias { IsNoAlias types.now ty }
     ensures writes { WritesValue types.now (tree_in types.now (ItemKind.Value ty)) scope.old scope.new result }
-    ensures refused { IfErr result (Refused types.now (ItemKind.Value ty) scope.new) }
+    ensures refused { IfErr result (Refused types.now (ItemKind.Value ty) scope.old scope.new) }
+    ensures known { OnOk result (KeepsKnown scope.old.known.all.items scope.new.known.all.items) }
     ensures resources { scope.new.resources ≡ scope.old.resources }
 {
     types.see_acyclic();
@@ -144,6 +142,8 @@ pub fn fits_in(alloc: Global, types: &Types, a: ItemKind, b: ItemKind) -> Result
     ensures fits { IfOk result (λ yes. yes ≡ true → Fit types.now a types.now b) }
     ensures stands { IfOk result (λ yes. yes ≡ true → Stands types.now a) }
     ensures other_stands { IfOk result (λ yes. yes ≡ true → Stands types.now b) }
+    ensures differs { IfOk result (λ yes. yes ≡ false → Stands types.now a → Stands types.now b
+        → Fit types.now a types.now b → ⊥) }
     ensures refused { IfErr result (λ e. e ≡ WriteError.Memory) }
 {
     if !types.has(a) || !types.has(b) {
@@ -156,8 +156,8 @@ pub fn fits_in(alloc: Global, types: &Types, a: ItemKind, b: ItemKind) -> Result
     let mut checker = SubtypeChecker::new(alloc, &mut cache);
     match checker.is_subtype(a, types, b, types) {
         Ok(()) => Ok(true),
+        Err(SubtypeError::Mismatch { .. }) => Ok(false),
         Err(SubtypeError::Memory) => Err(WriteError::Memory),
-        Err(_) => Ok(false),
     }
 }
 
@@ -169,14 +169,16 @@ fn place_of(
 ) -> Result<Option<usize>, WriteError>
     requires { Stands types.now (ItemKind.Value (ValueType.Defined id)) }
     ensures keeps { KeepsScope types.now scope.old scope.new }
+    ensures none { IfOk result (FindsTree types.now scope.old id) }
     ensures refused { IfErr result (λ e. e ≡ WriteError.Memory) }
+    ensures known { scope.new.known.all ≡ scope.old.known.all }
     ensures resources { scope.new.resources ≡ scope.old.resources }
 {
     if scope.known.places.by_print.is_empty() {
         return Ok(None);
     }
     let print = scope.known.places.prints.of(types, ValueType::Defined(id))?;
-    Ok(scope.known.places.by_print.get(&print).copied())
+    Ok(scope.known.places.place_of_print(print))
 }
 
 /// The index of the type at a place in the list of those that are known, if it is equal.
@@ -189,6 +191,7 @@ fn equal_at(
 ) -> Result<Option<u64>, WriteError>
     requires { Stands types.now (ItemKind.Value (ValueType.Defined id)) }
     ensures reads { IfOk result (λ o. FindsType types.now scope.now id o) }
+    ensures none { IfOk result (λ o. IfNone o (DiffersAt types.now scope.now.known.all.items (type_tree types.now id) at)) }
     ensures refused { IfErr result (λ e. e ≡ WriteError.Memory) }
 {
     types.see_acyclic();
@@ -214,6 +217,7 @@ fn equal_among(
 ) -> Result<Option<u64>, WriteError>
     requires { Stands types.now (ItemKind.Value (ValueType.Defined id)) }
     ensures reads { IfOk result (λ o. FindsType types.now scope.now id o) }
+    ensures none { IfOk result (FindsTree types.now scope.now id) }
     ensures refused { IfErr result (λ e. e ≡ WriteError.Memory) }
 {
     for at in 0..scope.known.all.len() {
@@ -236,7 +240,9 @@ fn equal_index(
     requires { Stands types.now (ItemKind.Value (ValueType.Defined id)) }
     ensures keeps { KeepsScope types.now scope.old scope.new }
     ensures reads { IfOk result (λ o. FindsType types.now scope.old id o) }
+    ensures none { IfOk result (FindsTree types.now scope.old id) }
     ensures refused { IfErr result (λ e. e ≡ WriteError.Memory) }
+    ensures known { scope.new.known.all ≡ scope.old.known.all }
     ensures resources { scope.new.resources ≡ scope.old.resources }
 {
     let Some(at) = place_of(scope, types, id)? else {
@@ -260,7 +266,9 @@ fn known_index(
     requires { Stands types.now (ItemKind.Value (ValueType.Defined id)) }
     ensures keeps { KeepsScope types.now scope.old scope.new }
     ensures reads { IfOk result (λ o. FindsType types.now scope.old id o) }
+    ensures none { IfOk result (FindsAll types.now scope.old id) }
     ensures refused { IfErr result (λ e. e ≡ WriteError.Memory) }
+    ensures known { scope.new.known.all ≡ scope.old.known.all }
     ensures resources { scope.new.resources ≡ scope.old.resources }
 {
     match scope.known(id) {
@@ -277,14 +285,17 @@ fn note_named(
     index: u64,
 ) -> Result<(), WriteError>
     requires { Stands types.now (ItemKind.Value (ValueType.Defined id)) }
-    ensures { RemembersOne types.now id index scope.old scope.new result }
+    ensures remembers { RemembersOne types.now id index scope.old scope.new result }
+    ensures found { OnOk result (IsFound types.now scope.new.known.all.items id) }
 {
     let print = scope.known.places.prints.of(types, ValueType::Defined(id))?;
-    if !scope.known.places.by_print.contains_key(&print) {
-        let at = scope.known.all.len();
-        let _ = scope.known.places.by_print.insert(print, at)?;
-    }
-    scope.remember(id, index)?;
+    let at = scope.known.all.len();
+    scope.known.places.note_print(print, at)?;
+    scope.remember(KnownType {
+        id,
+        index,
+        named: true,
+    })?;
     Ok(())
 }
 
@@ -333,7 +344,8 @@ fn note_defined(
     index: u64,
 ) -> Result<(), WriteError>
     requires { Stands types.now (ItemKind.Value (ValueType.Defined id)) }
-    ensures { RemembersOne types.now id index scope.old scope.new result }
+    ensures remembers { RemembersOne types.now id index scope.old scope.new result }
+    ensures found { OnOk result (IsFound types.now scope.new.known.all.items id) }
 {
     match scope.known(id) {
         Some(_) => Ok(()),
@@ -349,7 +361,7 @@ pub(crate) fn define_value(
     ty: ValueType,
 ) -> Result<u64, WriteError>
     ensures writes { WritesType types.now (tree_in types.now (ItemKind.Value ty)) scope.old scope.new result }
-    ensures refused { RefusedThere types.now (ItemKind.Value ty) scope.new result }
+    ensures refused { RefusedThere types.now (ItemKind.Value ty) scope.old scope.new result }
     ensures resources { scope.new.resources ≡ scope.old.resources }
 {
     if !types.has(ItemKind::Value(ty)) {
@@ -373,7 +385,7 @@ fn define_plain(
     requires no_alias { IsNoAlias types.now ty }
     ensures writes { WritesType types.now (tree_in types.now (ItemKind.Value ty)) scope.old scope.new result }
     ensures entry { MakesEntry types.now scope.old scope.new result }
-    ensures refused { IfErr result (Refused types.now (ItemKind.Value ty) scope.new) }
+    ensures refused { IfErr result (RefusedApart types.now (ItemKind.Value ty) scope.old scope.new) }
     ensures resources { scope.new.resources ≡ scope.old.resources }
 {
     types.see_acyclic();
@@ -396,7 +408,7 @@ fn define_once(
     requires no_alias { IsNoAlias types.now (ValueType.Defined id) }
     ensures writes { WritesType types.now
         (tree_in types.now (ItemKind.Value (ValueType.Defined id))) scope.old scope.new result }
-    ensures refused { IfErr result (Refused types.now (ItemKind.Value (ValueType.Defined id)) scope.new) }
+    ensures refused { IfErr result (Refused types.now (ItemKind.Value (ValueType.Defined id)) scope.old scope.new) }
     ensures resources { scope.new.resources ≡ scope.old.resources }
 {
     match known_index(alloc, scope, types, id)? {
@@ -415,7 +427,7 @@ pub(crate) fn define_apart(
     ensures stands { IfOk result (λ _. Stands types.now (ItemKind.Value ty)) }
     ensures writes { WritesType types.now (tree_in types.now (ItemKind.Value ty)) scope.old scope.new result }
     ensures entry { MakesEntry types.now scope.old scope.new result }
-    ensures refused { RefusedThere types.now (ItemKind.Value ty) scope.new result }
+    ensures refused { RefusedThereApart types.now (ItemKind.Value ty) scope.old scope.new result }
     ensures resources { scope.new.resources ≡ scope.old.resources }
 {
     if !types.has(ItemKind::Value(ty)) {
@@ -438,11 +450,15 @@ fn define_anew(
     ensures writes { WritesType types.now
         (tree_in types.now (ItemKind.Value (ValueType.Defined id))) scope.old scope.new result }
     ensures entry { MakesEntry types.now scope.old scope.new result }
-    ensures refused { IfErr result (Refused types.now (ItemKind.Value (ValueType.Defined id)) scope.new) }
+    ensures refused { IfErr result (RefusedParts types.now (ItemKind.Value (ValueType.Defined id)) scope.old scope.new) }
     ensures resources { scope.new.resources ≡ scope.old.resources }
 {
     let index = define_entry(alloc, scope, types, id)?;
-    scope.remember(id, index)?;
+    scope.remember(KnownType {
+        id,
+        index,
+        named: false,
+    })?;
     Ok(index)
 }
 
@@ -457,7 +473,8 @@ fn push_defined(
     requires stands { Stands types.now (ItemKind.Value (ValueType.Defined id)) }
     requires no_alias { IsNoAlias types.now (ValueType.Defined id) }
     ensures writes { WritesDefined types.now id scope.old scope.new result }
-    ensures refused { IfErr result (Refused types.now (ItemKind.Value (ValueType.Defined id)) scope.new) }
+    ensures refused { IfErr result (Refused types.now (ItemKind.Value (ValueType.Defined id)) scope.old scope.new) }
+    ensures known { OnOk result (KeepsKnown scope.old.known.all.items scope.new.known.all.items) }
     ensures resources { scope.new.resources ≡ scope.old.resources }
 {
     let known = known_index(alloc, scope, types, id)?;
@@ -465,7 +482,11 @@ fn push_defined(
         return Ok(Written::Index(index));
     }
     let index = define_entry(alloc, scope, types, id)?;
-    scope.remember(id, index)?;
+    scope.remember(KnownType {
+        id,
+        index,
+        named: false,
+    })?;
     Ok(Written::Index(index))
 }
 
@@ -480,7 +501,8 @@ fn define_entry(
     requires { Stands types.now (ItemKind.Value (ValueType.Defined id)) }
     ensures writes { WritesEntry types.now id scope.old scope.new result }
     ensures entry { MakesEntry types.now scope.old scope.new result }
-    ensures refused { IfErr result (Refused types.now (ItemKind.Value (ValueType.Defined id)) scope.new) }
+    ensures refused { IfErr result (RefusedParts types.now (ItemKind.Value (ValueType.Defined id)) scope.old scope.new) }
+    ensures known { OnOk result (KeepsKnown scope.old.known.all.items scope.new.known.all.items) }
     ensures resources { scope.new.resources ≡ scope.old.resources }
 {
     types.see_acyclic();
@@ -501,7 +523,8 @@ fn push_places(
     requires stands { Stands types.now kind }
     requires values { HoldsValues types.now kind }
     ensures writes { WritesPlaces types.now (place_trees types.now kind) scope.old scope.new result }
-    ensures refused { IfErr result (Refused types.now kind scope.new) }
+    ensures refused { IfErr result (RefusedParts types.now kind scope.old scope.new) }
+    ensures known { OnOk result (KeepsKnown scope.old.known.all.items scope.new.known.all.items) }
     ensures resources { scope.new.resources ≡ scope.old.resources }
 {
     types.see_acyclic();
@@ -525,7 +548,8 @@ fn push_place(
 ) -> Result<Option<Written>, WriteError>
     requires { StandsIf types.now place }
     ensures writes { WritesPlace types.now (value_tree types.now place) scope.old scope.new result }
-    ensures refused { IfErr result (RefusedPlace types.now place scope.new) }
+    ensures refused { IfErr result (RefusedPlace types.now place scope.old scope.new) }
+    ensures known { OnOk result (KeepsKnown scope.old.known.all.items scope.new.known.all.items) }
     ensures resources { scope.new.resources ≡ scope.old.resources }
 {
     match place {
@@ -547,7 +571,7 @@ pub(crate) fn push_func(
     requires { Stands types.now (ItemKind.Func id) }
     ensures writes { WritesType types.now (tree_in types.now (ItemKind.Func id)) scope.old scope.new result }
     ensures entry { MakesEntry types.now scope.old scope.new result }
-    ensures refused { IfErr result (Refused types.now (ItemKind.Func id) scope.new) }
+    ensures refused { IfErr result (Refused types.now (ItemKind.Func id) scope.old scope.new) }
     ensures resources { scope.new.resources ≡ scope.old.resources }
 {
     types.see_acyclic();

@@ -6,18 +6,20 @@ ghost use Rattle.wac_types_base.specs.Entries.{names_of, has_name, AreDistinct};
 ghost use Rattle.wac_types_fit.specs.Trees.{IsInside};
 ghost use Rattle.wac_graph_scopes.specs.Parts.{IsFresh};
 ghost use Rattle.wac_graph_scopes.specs.Items.{HasNameAt};
-ghost use Rattle.wac_graph_scopes.specs.Imports.{all_exports, KeepsWorld, WritesInOrder, KeepsExporting, ExportsAt, ExportsAll};
+ghost use Rattle.wac_graph_scopes.specs.Imports.{all_exports, KeepsWorld, WritesInOrder, KeepsExporting, ExportsAt, ExportsInOrder, ExportsAll, ExportsThere};
 ghost use Rattle.wac_graph_scopes.specs.Imports.{WritesBetween, WritesBeforeOthers, BeginsWorld, MakesComponent};
 
 use crate::fault::WriteError;
 use crate::imports::{ImportScope, Importing};
 use crate::items::{ItemScope, add_name, export_resource};
+use crate::order::export_order;
 use crate::parts::{
-    Item, is_fresh, world_export_at, world_export_count, world_use_at, world_use_count,
+    Item, export_at, export_count, identifier, interface_of, is_fresh, use_at, use_count,
+    world_export_at, world_export_count, world_use_at, world_use_count,
 };
 use std::alloc::{AllocError, Global};
 use wac_graph_bytes::Declaration;
-use wac_types_base::{Names, Types, WorldId};
+use wac_types_base::{InterfaceId, ItemKind, Names, Types, WorldId};
 
 /// Writes the imports at places of a world.
 #[cycle(types)]
@@ -156,6 +158,78 @@ fn export_resources(
     Ok(())
 }
 
+/// Adds the identifiers of the interfaces that an item uses.
+fn add_used_by(
+    alloc: Global,
+    types: &Types,
+    kind: ItemKind,
+    used: &mut Names,
+) -> Result<(), AllocError> {
+    let Some(id) = interface_of(types, kind) else {
+        return Ok(());
+    };
+    for at in 0..use_count(types, id) {
+        if let Some(one) = use_at(types, id, at) {
+            if let Some(name) = identifier(types, one.interface) {
+                add_name(alloc, used, name)?;
+            }
+        }
+    }
+    for at in 0..export_count(types, id) {
+        if let Some(item) = export_at(types, id, at) {
+            add_used_by(alloc, types, item.kind, used)?;
+        }
+    }
+    Ok(())
+}
+
+/// The identifiers of the interfaces that exports use, where these are over the world's own.
+fn used_by_exports(alloc: Global, all: Importing<'_>) -> Result<Names, AllocError> {
+    let mut used = Names::new(alloc);
+    if all.over_exports {
+        for at in 0..world_export_count(all.types, all.world) {
+            if let Some(item) = world_export_at(all.types, all.world, at) {
+                add_used_by(alloc, all.types, item.kind, &mut used)?;
+            }
+        }
+    }
+    Ok(used)
+}
+
+/// The interface of an item, if it is an instance of one that exports use.
+fn used_interface(item: Item<'_>, used: &Names) -> Option<InterfaceId>
+    ensures { IfSome result (λ id. item.entry.kind ≡ ItemKind.Instance id) }
+{
+    match item.kind {
+        ItemKind::Instance(id) => {
+            if used.contains(item.name) {
+                Some(id)
+            } else {
+                None
+            }
+        }
+        _ => None,
+    }
+}
+
+/// Exports an item. If it is of an interface that exports use, its types stand for them from then on.
+#[cycle(types)]
+fn export_other(
+    alloc: Global,
+    all: Importing<'_>,
+    scope: &mut ImportScope,
+    item: Item<'_>,
+    used: &Names,
+) -> Result<(), WriteError>
+    ensures { ExportsThere all.entry item.entry scope.old scope.new result }
+{
+    let index = scope.export(alloc, all, item)?;
+    match used_interface(item, used) {
+        Some(id) => scope.alias_exported(alloc, all, item.name, id, index),
+        None => Ok(()),
+    }
+}
+
 /// Exports the item at a place of a world that is not written yet, and adds its name.
 #[cycle(types)]
 fn export_other_at(
@@ -163,6 +237,7 @@ fn export_other_at(
     all: Importing<'_>,
     scope: &mut ImportScope,
     at: usize,
+    used: &Names,
     exported: &mut Names,
 ) -> Result<(), WriteError>
     requires { AreDistinct (names_of (all_exports all)) }
@@ -170,14 +245,33 @@ fn export_other_at(
 {
     match other_at(all, exported, at) {
         Some(item) => {
-            scope.export(alloc, all, item)?;
+            export_other(alloc, all, scope, item, used)?;
             Ok(add_name(alloc, exported, item.name)?)
         }
         None => Ok(()),
     }
 }
 
-/// Exports the items of a world that are not written yet.
+/// Exports the items at these places of a world that are not written yet.
+#[cycle(types)]
+fn export_in_order(
+    alloc: Global,
+    all: Importing<'_>,
+    scope: &mut ImportScope,
+    order: &[usize],
+    used: &Names,
+    exported: &mut Names,
+) -> Result<(), WriteError>
+    requires { AreDistinct (names_of (all_exports all)) }
+    ensures { ExportsInOrder all.entry order.now scope.old exported.old scope.new exported.new result }
+{
+    for at in order {
+        export_other_at(alloc, all, scope, *at, used, exported)?;
+    }
+    Ok(())
+}
+
+/// Exports the items of a world that are not written yet, each behind those that it uses.
 #[cycle(types)]
 fn export_others(
     alloc: Global,
@@ -187,11 +281,9 @@ fn export_others(
 ) -> Result<(), WriteError>
     ensures { ExportsAll all.entry scope.old exported.old scope.new exported.new result }
 {
-    let count = world_export_count(all.types, all.world);
-    for at in 0..count {
-        export_other_at(alloc, all, scope, at, exported)?;
-    }
-    Ok(())
+    let order = export_order(alloc, all)?;
+    let used = used_by_exports(alloc, all)?;
+    export_in_order(alloc, all, scope, order.as_slice(), &used, exported)
 }
 
 /// Makes the types stand that a world uses, and exports the resources that do not stand yet; their names.
@@ -233,7 +325,7 @@ fn write_component(
     all: Importing<'_>,
     scope: &mut ImportScope,
 ) -> Result<Vec<Declaration>, WriteError>
-    requires { BeginsWorld scope.old }
+    requires { BeginsWorld all scope.old }
     ensures { MakesComponent all.entry.types.now all.entry.world result }
 {
     all.types.see_acyclic();
@@ -244,11 +336,29 @@ fn write_component(
 
 /// The scope of a world that is begun.
 fn begun(alloc: Global, all: Importing<'_>) -> Result<ImportScope, AllocError>
-    ensures { IfOk result BeginsWorld }
+    ensures { IfOk result (BeginsWorld all.entry) }
 {
     let mut scope = ImportScope::new(alloc);
     scope.begin(alloc, all)?;
     Ok(scope)
+}
+
+/// The declarations of the component type of a package, whose exports are over those interfaces of their own that they use.
+pub(crate) fn package_type(
+    alloc: Global,
+    types: &Types,
+    id: WorldId,
+) -> Result<Vec<Declaration>, WriteError>
+    ensures { MakesComponent types.now id result }
+{
+    let all = Importing {
+        types,
+        world: id,
+        called: &[],
+        over_exports: true,
+    };
+    let mut scope = begun(alloc, all)?;
+    write_component(alloc, all, &mut scope)
 }
 
 /// The declarations of a component type.
@@ -264,6 +374,7 @@ pub(crate) fn component_type(
         types,
         world: id,
         called: &[],
+        over_exports: false,
     };
     let mut scope = begun(alloc, all)?;
     write_component(alloc, all, &mut scope)

@@ -1,24 +1,27 @@
 -- Imports that give what is used.
-use Rattle.std.proofs.Common.{◌≡◌, ◌||◌, Bool, true, false, true≢false, Option, Some, None, refl, sym, ap, ◌∙◌}
+use Rattle.std.specs.Prelude.{◌==◌, cond}
+use Rattle.std.specs.Cmp.Lexicographic.{pointwise}
+use Rattle.std.proofs.Common.{◌≡◌, ◌||◌, List, [], ◌∷◌, ◌++◌, Bool, true, false, true≢false, Option, Some, None, refl, sym, ap, ◌∙◌}
 use Rattle.std.specs.Prelude.{not, is_some, option_map, if◌then◌else◌}
 use Rattle.std.specs.Bool.{Decides}
 use Rattle.std.proofs.lemmas.Bool.Decides.{Decides-at}
 use Rattle.wac_types_base.specs.declared.ids.InterfaceId.{InterfaceId}
-use Rattle.wac_types_base.specs.declared.ids.WorldId.{WorldId}
+use Rattle.wac_writable.specs.declared.writable.GivenBy.{GivenBy}
 use Rattle.wac_types_base.specs.declared.ids.ResourceId.{ResourceId}
 use Rattle.wac_types_base.specs.declared.item.ItemKind.{ItemKind}
-use Rattle.wac_types_base.specs.Entries.{Name, value_at}
+use Rattle.wac_types_base.specs.Entries.{Name, value_at, with_values}
 use Rattle.wac_types_base.specs.Record.{Collection}
 use Rattle.wac_types_base.specs.Collection.{Stands, IsAcyclic}
-use Rattle.wac_types_base.specs.Stated.{imports_of, exports_of, stated_of}
+use Rattle.wac_types_base.specs.Stated.{exports_of, stated_of}
 use Rattle.wac_types_base.proofs.Stating.{value_with}
 use Rattle.wac_composition.specs.Writable.{item_in, given_in, stands_as}
 use Rattle.wac_composition.specs.NotWritten.{IsImported}
 use Rattle.wac_graph_scopes.specs.declared.parts.Use.{Use}
-use Rattle.wac_graph_scopes.specs.Parts.{exports_of as exports_in, imports_of as imports_in, IsOfInterface}
+use Rattle.wac_graph_scopes.specs.Parts.{exports_of as exports_in, imports_of as imports_in, world_exports_of as world_exports_in, IsOfInterface}
 use Rattle.wac_writable.specs.Holders.{same_item, resource_in}
 use Rattle.wac_writable.specs.Tests.{used_of, given_by, stands_in}
-use Rattle.wac_writable.proofs.PartsStated.{exports_are, imports_are}
+use Rattle.wac_writable.specs.Givers.{items_by, givers_by}
+use Rattle.wac_writable.proofs.PartsStated.{exports_are, imports_are, world_exports_are}
 use Rattle.wac_writable.proofs.ItemLaws.{resource_kind, other_kind}
 use Rattle.wac_writable.proofs.InterfaceLaws.{has_parts, has_none}
 use Rattle.wac_writable.proofs.UseLaws.{imported_decides, nothing_imported}
@@ -47,14 +50,40 @@ module _ (c : Collection) (a : IsAcyclic c) where
         ∙ ap (λ l. stands_as (Some (stated_of c k)) (value_at l u.there.now)) p.exports
         ∙ ap (stands_as (Some (stated_of c k))) (named id u.there.now o f)
 
-  -- ---- imports under a name
+  values_both : {A B : Type 0} (f : A → B) (xs ys : List (Name × A)) → with_values f (xs ++ ys) ≡ with_values f xs ++ with_values f ys
+  values_both f [] ys = refl
+  values_both f (x ∷ xs) ys = ap (λ l. (x.0, f x.1) ∷ l) (values_both f xs ys)
 
-  module _ (w : WorldId) (n : Name) (u : Use) where
-    imported : (o : Option ItemKind) → o ≡ value_at (imports_in c w) n → value_at (imports_of (stated_of c (ItemKind.Component w))) n ≡ option_map (stated_of c) o
-    imported o e = ap (λ l. value_at l n) (imports_are c a w) ∙ value_with (stated_of c) (imports_in c w) n ∙ ap (option_map (stated_of c)) (sym e)
+  -- ---- what is given under a name
 
-    pub import_gives : (k : ItemKind) (b : Bool) → Some k ≡ value_at (imports_in c w) n → b ≡ given_by c k u → Decides b (IsImported (imports_of (stated_of c (ItemKind.Component w))) n (used_of c u))
-    import_gives k b e g = Decides-at b (given_by c k u) g (imported_decides (imports_of (stated_of c (ItemKind.Component w))) n (used_of c u) (stated_of c k) (imported (Some k) e))
+  given_stated : (by : GivenBy) → givers_by c by ≡ with_values (stated_of c) (items_by c by)
+  given_stated GivenBy.Nothing = refl
+  given_stated (GivenBy.Imports w) = imports_are c a w
+  given_stated (GivenBy.Exports w) = (λ i. world_exports_are c a w i ++ imports_are c a w i) ∙ sym (values_both (stated_of c) (world_exports_in c w) (imports_in c w))
 
-    pub no_import_gives : None ≡ value_at (imports_in c w) n → IsImported (imports_of (stated_of c (ItemKind.Component w))) n (used_of c u) → ⊥
-    no_import_gives e = nothing_imported (imports_of (stated_of c (ItemKind.Component w))) n (used_of c u) (imported None e)
+  module _ (by : GivenBy) (n : Name) (u : Use) where
+    given_under : (o : Option ItemKind) → o ≡ value_at (items_by c by) n → value_at (givers_by c by) n ≡ option_map (stated_of c) o
+    given_under o e = ap (λ l. value_at l n) (given_stated by) ∙ value_with (stated_of c) (items_by c by) n ∙ ap (option_map (stated_of c)) (sym e)
+
+    pub item_gives : (k : ItemKind) (b : Bool) → Some k ≡ value_at (items_by c by) n → b ≡ given_by c k u → Decides b (IsImported (givers_by c by) n (used_of c u))
+    item_gives k b e g = Decides-at b (given_by c k u) g (imported_decides (givers_by c by) n (used_of c u) (stated_of c k) (given_under (Some k) e))
+
+    pub no_item_gives : None ≡ value_at (items_by c by) n → IsImported (givers_by c by) n (used_of c u) → ⊥
+    no_item_gives e = nothing_imported (givers_by c by) n (used_of c u) (given_under None e)
+
+-- of two lists the first decides
+pub value_first : {T : Type 0} (xs ys : List (Name × T)) (n : Name) (v : T) → Some v ≡ value_at xs n → Some v ≡ value_at (xs ++ ys) n
+value_first [] ys n v e = absurd (cc e)
+value_first (x ∷ xs) ys n v e = go (value_first xs ys n v) (pointwise ◌==◌ n x.0) e
+  where
+    go : (Some v ≡ value_at xs n → Some v ≡ value_at (xs ++ ys) n) → (b : Bool) → Some v ≡ cond b (Some x.1) (value_at xs n) → Some v ≡ cond b (Some x.1) (value_at (xs ++ ys) n)
+    go later true e = e
+    go later false e = later e
+
+pub value_second : {T : Type 0} (xs ys : List (Name × T)) (n : Name) (o : Option T) → None ≡ value_at xs n → o ≡ value_at ys n → o ≡ value_at (xs ++ ys) n
+value_second [] ys n o e f = f
+value_second (x ∷ xs) ys n o e f = go (λ h. value_second xs ys n o h f) (pointwise ◌==◌ n x.0) e
+  where
+    go : (None ≡ value_at xs n → o ≡ value_at (xs ++ ys) n) → (b : Bool) → None ≡ cond b (Some x.1) (value_at xs n) → o ≡ cond b (Some x.1) (value_at (xs ++ ys) n)
+    go later true e = absurd (cc e)
+    go later false e = later e

@@ -18,10 +18,11 @@ use Rattle.wac_composition.specs.NotWritten.{IsImported}
 use Rattle.wac_graph_scopes.specs.declared.parts.Use.{Use}
 use Rattle.wac_writable.specs.declared.writable.Test.{Test}
 use Rattle.wac_writable.specs.declared.writable.Giver.{Giver}
+use Rattle.wac_writable.specs.declared.writable.GivenBy.{GivenBy}
 use Rattle.wac_writable.specs.Unnamed.{KnowsAll}
 use Rattle.wac_writable.specs.Tests.{used_of}
 use Rattle.wac_writable.specs.Uses.{TypesFail, AddedFails, UseFails}
-use Rattle.wac_writable.specs.Givers.{instance_of, imports_by, NeedsFailing, AllFine, KnowsBelow, Goes, TellsBeside}
+use Rattle.wac_writable.specs.Givers.{instance_of, givers_by, NeedsFailing, AllFine, KnowsBelow, Goes, TellsBeside}
 use Rattle.wac_writable.proofs.UnnamedLaws.{same_id}
 use Rattle.wac_writable.proofs.UseLaws.{tells_no}
 use Rattle.wac_types_base.proofs.Lists.{always}
@@ -55,44 +56,44 @@ module _ (t : Test) where
   abbrev at : InterfaceId → Stated
   at i = instance_of t.types.now i
 
-  abbrev beside : Option WorldId → List (Name × Stated)
-  beside w = imports_by t.types.now w
+  abbrev beside : GivenBy → List (Name × Stated)
+  beside w = givers_by t.types.now w
 
   -- ---- what goes on
 
   pub goes_nowhere : (n : ℕ) (g : Giver) → KnowsBelow t n g → Goes t g g
-  goes_nowhere n g k = record { world = refl; fine = k.fine; seen = λ i m. inl m }
+  goes_nowhere n g k = record { given_by = refl; fine = k.fine; seen = λ i m. inl m }
 
   pub goes_then : (a b d : Giver) → Goes t a b → Goes t b d → Goes t a d
-  goes_then a b d p q = record { world = q.world ∙ p.world; fine = q.fine; seen = λ i m. by i (q.seen i m) }
+  goes_then a b d p q = record { given_by = q.given_by ∙ p.given_by; fine = q.fine; seen = λ i m. by i (q.seen i m) }
     where
-      by : (i : InterfaceId) → Among i b.seen.keys ⊎ (NeedsFailing t b.world i → ⊥) → Among i a.seen.keys ⊎ (NeedsFailing t a.world i → ⊥)
+      by : (i : InterfaceId) → Among i b.seen.keys ⊎ (NeedsFailing t b.given_by i → ⊥) → Among i a.seen.keys ⊎ (NeedsFailing t a.given_by i → ⊥)
       by i (inl m) = p.seen i m
-      by i (inr h) = inr (λ f. h (subst (λ w. NeedsFailing t w i) (sym p.world) f))
+      by i (inr h) = inr (λ f. h (subst (λ w. NeedsFailing t w i) (sym p.given_by) f))
 
   pub knows_after : (n m : ℕ) (a b : Giver) → m ≤ n → KnowsBelow t n a → Goes t a b → KnowsBelow t m b
-  knows_after n m a b le k g = record { fine = g.fine; seen = λ i s lt f. by i lt (subst (λ w. NeedsFailing t w i) g.world f) (g.seen i s) }
+  knows_after n m a b le k g = record { fine = g.fine; seen = λ i s lt f. by i lt (subst (λ w. NeedsFailing t w i) g.given_by f) (g.seen i s) }
     where
-      by : (i : InterfaceId) → size_of t.types.now (ItemKind.Instance i) < m → NeedsFailing t a.world i → Among i a.seen.keys ⊎ (NeedsFailing t a.world i → ⊥) → ⊥
+      by : (i : InterfaceId) → size_of t.types.now (ItemKind.Instance i) < m → NeedsFailing t a.given_by i → Among i a.seen.keys ⊎ (NeedsFailing t a.given_by i → ⊥) → ⊥
       by i lt f (inl s) = k.seen i s (omega (arith, le, lt)) f
       by i lt f (inr h) = h f
 
   -- what a later call answers, from the start on
   pub tells_after : (a b d : Giver) (n m : ℕ) (P : List (Name × Stated) → Type 0) (r : Bool) → KnowsAll t.types.now t.unnamed.now → KnowsBelow t n a → m ≤ n → Goes t a b → TellsBeside t b d m P r
-      → Decides r (P (beside a.world)) × (r ≡ false → Goes t a d)
+      → Decides r (P (beside a.given_by)) × (r ≡ false → Goes t a d)
   tells_after a b d n m P r ka k le g f =
       let x = f ka (knows_after n m a b le k g) in
-      (subst (λ w. Decides r (P (beside w))) g.world x.0, λ e. goes_then a b d g (x.1 e))
+      (subst (λ w. Decides r (P (beside w))) g.given_by x.0, λ e. goes_then a b d g (x.1 e))
 
-  pub beside_yes : (a d : Giver) (n : ℕ) (P : List (Name × Stated) → Type 0) → (KnowsAll t.types.now t.unnamed.now → KnowsBelow t n a → P (beside a.world)) → TellsBeside t a d n P true
+  pub beside_yes : (a d : Giver) (n : ℕ) (P : List (Name × Stated) → Type 0) → (KnowsAll t.types.now t.unnamed.now → KnowsBelow t n a → P (beside a.given_by)) → TellsBeside t a d n P true
   beside_yes a d n P f ka k = (always (f ka k), λ e. absurd (true≢false e))
 
-  pub beside_no : (a d : Giver) (n : ℕ) (P : List (Name × Stated) → Type 0) → (KnowsAll t.types.now t.unnamed.now → KnowsBelow t n a → Goes t a d × (P (beside a.world) → ⊥)) → TellsBeside t a d n P false
+  pub beside_no : (a d : Giver) (n : ℕ) (P : List (Name × Stated) → Type 0) → (KnowsAll t.types.now t.unnamed.now → KnowsBelow t n a → Goes t a d × (P (beside a.given_by) → ⊥)) → TellsBeside t a d n P false
   beside_no a d n P f ka k = let x = f ka k in (tells_no x.1, λ e. x.0)
 
   -- so far none fails, and what is remembered stays true
   abbrev pub Passed : Giver → Giver → ℕ → (List (Name × Stated) → Type 0) → Type 0
-  Passed old now n P = KnowsAll t.types.now t.unnamed.now → KnowsBelow t n old → Goes t old now × P (beside old.world)
+  Passed old now n P = KnowsAll t.types.now t.unnamed.now → KnowsBelow t n old → Goes t old now × P (beside old.given_by)
 
   -- ---- types of interfaces
 
@@ -108,9 +109,9 @@ module _ (t : Test) where
     types_added e n (inl o) = true≢false (sym o ∙ e)
     types_added e n (inr f) = n f
 
-    pub goes_fine : (d : Giver) → KnowsBelow t 0 g → (TypesFail t.is_outer (at id) → ⊥) → d.world ≡ g.world → d.seen.keys ≡ g.seen.keys → d.fine.keys ≡ insert_key eq-value.it g.fine.keys id → Goes t g d
+    pub goes_fine : (d : Giver) → KnowsBelow t 0 g → (TypesFail t.is_outer (at id) → ⊥) → d.given_by ≡ g.given_by → d.seen.keys ≡ g.seen.keys → d.fine.keys ≡ insert_key eq-value.it g.fine.keys id → Goes t g d
     goes_fine d k n w s e = record {
-      world = w;
+      given_by = w;
       fine = record { each = λ i m f. by i f (among_inserted id g.fine.keys d.fine.keys e i m) };
       seen = λ i m. inl (subst (Among i) s m);
     }
@@ -134,45 +135,45 @@ module _ (t : Test) where
   -- ---- an interface that was seen, and one that is new
 
   module _ (u : Use) (a b : Giver) (k : KnowsBelow t (size_of t.types.now (ItemKind.Instance u.interface) + 1) a) (g : Goes t a b) where
-    pub seen_before : Among u.interface b.seen.keys → NeedsFailing t a.world u.interface → ⊥
+    pub seen_before : Among u.interface b.seen.keys → NeedsFailing t a.given_by u.interface → ⊥
     seen_before s f = by (g.seen u.interface s)
       where
-        by : Among u.interface a.seen.keys ⊎ (NeedsFailing t a.world u.interface → ⊥) → ⊥
+        by : Among u.interface a.seen.keys ⊎ (NeedsFailing t a.given_by u.interface → ⊥) → ⊥
         by (inl m) = k.seen u.interface m (omega arith) f
         by (inr h) = h f
 
-    module _ (d : Giver) (w : d.world ≡ b.world) (fine : d.fine.keys ≡ b.fine.keys) (keys : d.seen.keys ≡ insert_key eq-value.it b.seen.keys u.interface) where
+    module _ (d : Giver) (w : d.given_by ≡ b.given_by) (fine : d.fine.keys ≡ b.fine.keys) (keys : d.seen.keys ≡ insert_key eq-value.it b.seen.keys u.interface) where
       all_fine : AllFine t d.fine.keys
       all_fine = subst (AllFine t) (sym fine) g.fine
 
       -- those below it are others
       pub knows_new : KnowsBelow t (size_of t.types.now (ItemKind.Instance u.interface)) d
-      knows_new = record { fine = all_fine; seen = λ i m lt f. by i lt (subst (λ w. NeedsFailing t w i) (w ∙ g.world) f) (among_inserted u.interface b.seen.keys d.seen.keys keys i m) }
+      knows_new = record { fine = all_fine; seen = λ i m lt f. by i lt (subst (λ w. NeedsFailing t w i) (w ∙ g.given_by) f) (among_inserted u.interface b.seen.keys d.seen.keys keys i m) }
         where
-          old : (i : InterfaceId) → size_of t.types.now (ItemKind.Instance i) < size_of t.types.now (ItemKind.Instance u.interface) → NeedsFailing t a.world i → Among i a.seen.keys ⊎ (NeedsFailing t a.world i → ⊥) → ⊥
+          old : (i : InterfaceId) → size_of t.types.now (ItemKind.Instance i) < size_of t.types.now (ItemKind.Instance u.interface) → NeedsFailing t a.given_by i → Among i a.seen.keys ⊎ (NeedsFailing t a.given_by i → ⊥) → ⊥
           old i lt f (inl m) = k.seen i m (omega (arith, lt)) f
           old i lt f (inr h) = h f
 
-          by : (i : InterfaceId) → size_of t.types.now (ItemKind.Instance i) < size_of t.types.now (ItemKind.Instance u.interface) → NeedsFailing t a.world i → Among i b.seen.keys ⊎ (i ≡ u.interface) → ⊥
+          by : (i : InterfaceId) → size_of t.types.now (ItemKind.Instance i) < size_of t.types.now (ItemKind.Instance u.interface) → NeedsFailing t a.given_by i → Among i b.seen.keys ⊎ (i ≡ u.interface) → ⊥
           by i lt f (inl m) = old i lt f (g.seen i m)
           by i lt f (inr q) = let s : size_of t.types.now (ItemKind.Instance i) ≡ size_of t.types.now (ItemKind.Instance u.interface) = ap (λ i. size_of t.types.now (ItemKind.Instance i)) q in omega (arith, s, lt)
 
       -- and it needs none that fails
-      pub goes_new : (e : Giver) → Goes t d e → (NeedsFailing t a.world u.interface → ⊥) → Goes t a e
-      goes_new e h n = record { world = h.world ∙ w ∙ g.world; fine = h.fine; seen = λ i m. by i (h.seen i m) }
+      pub goes_new : (e : Giver) → Goes t d e → (NeedsFailing t a.given_by u.interface → ⊥) → Goes t a e
+      goes_new e h n = record { given_by = h.given_by ∙ w ∙ g.given_by; fine = h.fine; seen = λ i m. by i (h.seen i m) }
         where
-          known : (i : InterfaceId) → Among i b.seen.keys ⊎ (i ≡ u.interface) → Among i a.seen.keys ⊎ (NeedsFailing t a.world i → ⊥)
+          known : (i : InterfaceId) → Among i b.seen.keys ⊎ (i ≡ u.interface) → Among i a.seen.keys ⊎ (NeedsFailing t a.given_by i → ⊥)
           known i (inl m) = g.seen i m
-          known i (inr q) = inr (subst (λ i. NeedsFailing t a.world i → ⊥) (sym q) n)
+          known i (inr q) = inr (subst (λ i. NeedsFailing t a.given_by i → ⊥) (sym q) n)
 
-          by : (i : InterfaceId) → Among i d.seen.keys ⊎ (NeedsFailing t d.world i → ⊥) → Among i a.seen.keys ⊎ (NeedsFailing t a.world i → ⊥)
+          by : (i : InterfaceId) → Among i d.seen.keys ⊎ (NeedsFailing t d.given_by i → ⊥) → Among i a.seen.keys ⊎ (NeedsFailing t a.given_by i → ⊥)
           by i (inl m) = known i (among_inserted u.interface b.seen.keys d.seen.keys keys i m)
-          by i (inr x) = inr (λ f. x (subst (λ w. NeedsFailing t w i) (sym (w ∙ g.world)) f))
+          by i (inr x) = inr (λ f. x (subst (λ w. NeedsFailing t w i) (sym (w ∙ g.given_by)) f))
 
       pub goes_seen : Among u.interface b.seen.keys → Goes t a d
-      goes_seen s = record { world = w ∙ g.world; fine = all_fine; seen = λ i m. by i (among_inserted u.interface b.seen.keys d.seen.keys keys i m) }
+      goes_seen s = record { given_by = w ∙ g.given_by; fine = all_fine; seen = λ i m. by i (among_inserted u.interface b.seen.keys d.seen.keys keys i m) }
         where
-          by : (i : InterfaceId) → Among i b.seen.keys ⊎ (i ≡ u.interface) → Among i a.seen.keys ⊎ (NeedsFailing t a.world i → ⊥)
+          by : (i : InterfaceId) → Among i b.seen.keys ⊎ (i ≡ u.interface) → Among i a.seen.keys ⊎ (NeedsFailing t a.given_by i → ⊥)
           by i (inl m) = g.seen i m
           by i (inr q) = g.seen i (subst (λ i. Among i b.seen.keys) (sym q) s)
 

@@ -13,4 +13,5 @@ pub mod UseLaws
 pub mod GiverLaws
 pub mod TypesLaws
 pub mod WorldLaws
+pub mod PackageLaws
 pub mod WalkLaws

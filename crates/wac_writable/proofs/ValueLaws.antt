@@ -24,6 +24,7 @@ use Rattle.wac_composition.specs.Writable.{Holder as Held}
 use Rattle.wac_composition.proofs.NotWritten.{stated_again}
 use Rattle.wac_graph_scopes.specs.Parts.{IsRootName}
 use Rattle.wac_writable.specs.declared.holder.Holder.{Holder}
+use Rattle.wac_graph_scopes.proofs.PrintLaws.{same_id}
 use Rattle.wac_writable.specs.Holders.{Holds, Keeps, Remembers, tested_of}
 use Rattle.wac_writable.specs.Values.{IsHandleOf, lacks_root, fails_unused, value_in_slot, id_fails, slot_fails, places_fail}
 use Rattle.wac_writable.proofs.UnnamedLaws.{any_at}
@@ -154,9 +155,6 @@ module _ (c : Collection) (a : IsAcyclic c) where
   root_lacking r n h b s is e = ap not (e ∙ ap (has_name h.roots) (sym (root_named c a r n s is)))
 
 -- ---- what is remembered
-
-same_id : (a b : DefinedTypeId) → IsTrue (eq-value.it a b) ↔ (a ≡ b)
-same_id a b = search rules
 
 id_cases : (a b : DefinedTypeId) → (eq-value.it a b ≡ false) ⊎ (a ≡ b)
 id_cases a b = by (eq-value.it a b) refl

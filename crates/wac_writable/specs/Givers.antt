@@ -9,10 +9,12 @@ use Rattle.wac_types_base.specs.Entries.{Name}
 use Rattle.wac_types_base.specs.Graph.{Among}
 use Rattle.wac_types_base.specs.Collection.{size_of}
 use Rattle.wac_types_base.specs.Stated.{Stated, stated_of, uses_of, imports_of, exports_of, stated_world}
-use Rattle.wac_composition.specs.NotWritten.{IsImported}
+use Rattle.wac_composition.specs.NotWritten.{IsImported, given_to_exports}
+use Rattle.wac_graph_scopes.specs.Parts.{imports_of as imports_in, world_exports_of as exports_in}
 use Rattle.wac_graph_scopes.specs.declared.parts.Use.{Use}
 use Rattle.wac_writable.specs.declared.writable.Test.{Test}
 use Rattle.wac_writable.specs.declared.writable.Giver.{Giver}
+use Rattle.wac_writable.specs.declared.writable.GivenBy.{GivenBy}
 use Rattle.wac_writable.specs.Unnamed.{KnowsAll}
 use Rattle.wac_writable.specs.Tests.{used_of}
 use Rattle.wac_writable.specs.Uses.{TypesFail, AddedFails, UseFails, SomeNeeded, NeededBy, FailsAt, SomeUse, SomeItem}
@@ -20,10 +22,16 @@ use Rattle.wac_writable.specs.Uses.{TypesFail, AddedFails, UseFails, SomeNeeded,
 abbrev pub instance_of : Collection → InterfaceId → Stated
 instance_of c i = stated_of c (ItemKind.Instance i)
 
--- the imports that give what is used
-abbrev pub imports_by : Collection → Option WorldId → List (Name × Stated)
-imports_by c None = []
-imports_by c (Some w) = imports_of (stated_world c w)
+-- the items that give what is used: of several under one name the first
+abbrev pub items_by : Collection → GivenBy → List (Name × ItemKind)
+items_by c GivenBy.Nothing = []
+items_by c (GivenBy.Imports w) = imports_in c w
+items_by c (GivenBy.Exports w) = exports_in c w ++ imports_in c w
+
+abbrev pub givers_by : Collection → GivenBy → List (Name × Stated)
+givers_by c GivenBy.Nothing = []
+givers_by c (GivenBy.Imports w) = imports_of (stated_world c w)
+givers_by c (GivenBy.Exports w) = given_to_exports (stated_world c w)
 
 -- ---- what is remembered
 
@@ -31,9 +39,9 @@ module _ (t : Test) where
   abbrev pub size_in : InterfaceId → ℕ
   size_in i = size_of t.types.now (ItemKind.Instance i)
 
-  -- a use fails that this interface needs, beside the imports of a world
-  abbrev pub NeedsFailing : Option WorldId → InterfaceId → Type 0
-  NeedsFailing w i = NeededBy t.is_outer (imports_by t.types.now w) (instance_of t.types.now i)
+  -- a use fails that this interface needs, beside what is given
+  abbrev pub NeedsFailing : GivenBy → InterfaceId → Type 0
+  NeedsFailing w i = NeededBy t.is_outer (givers_by t.types.now w) (instance_of t.types.now i)
 
   -- the types of none of these fail
   pub record AllFine (ids : List InterfaceId) : Type 0 where
@@ -42,26 +50,26 @@ module _ (t : Test) where
   -- the types of what is called fine do not fail, and nothing that was seen, below this size, needs a use that fails
   pub record KnowsBelow (size : ℕ) (g : Giver) : Type 0 where
     pub fine : AllFine g.fine.keys
-    pub seen : (i : InterfaceId) → Among i g.seen.keys → size_in i < size → NeedsFailing g.world i → ⊥
+    pub seen : (i : InterfaceId) → Among i g.seen.keys → size_in i < size → NeedsFailing g.given_by i → ⊥
 
   -- each that was seen meanwhile needs none that fails
   pub record Goes (old new : Giver) : Type 0 where
-    pub world : new.world ≡ old.world
+    pub given_by : new.given_by ≡ old.given_by
     pub fine : AllFine new.fine.keys
-    pub seen : (i : InterfaceId) → Among i new.seen.keys → Among i old.seen.keys ⊎ (NeedsFailing old.world i → ⊥)
+    pub seen : (i : InterfaceId) → Among i new.seen.keys → Among i old.seen.keys ⊎ (NeedsFailing old.given_by i → ⊥)
 
 -- ---- answers
 
--- Whether this is so beside a giver's imports, where what it remembers is true below a size. If it is not so, all that it learnt
+-- Whether this is so beside what is given, where what it remembers is true below a size. If it is not so, all that it learnt
 -- meanwhile is true.
 abbrev pub TellsBeside : Test → Giver → Giver → ℕ → (List (Name × Stated) → Type 0) → Bool → Type 0
 TellsBeside t old new size P b =
     KnowsAll t.types.now t.unnamed.now → KnowsBelow t size old
-    → Decides b (P (imports_by t.types.now old.world)) × (b ≡ false → Goes t old new)
+    → Decides b (P (givers_by t.types.now old.given_by)) × (b ≡ false → Goes t old new)
 
 -- whether a use is given
-abbrev pub TellsImported : Test → Option WorldId → Name → Use → Bool → Type 0
-TellsImported t w n u b = Decides b (IsImported (imports_by t.types.now w) n (used_of t.types.now u))
+abbrev pub TellsImported : Test → GivenBy → Name → Use → Bool → Type 0
+TellsImported t w n u b = Decides b (IsImported (givers_by t.types.now w) n (used_of t.types.now u))
 
 -- whether a used interface fails that is not given
 abbrev pub TellsAdded : Test → Giver → Giver → InterfaceId → Bool → Type 0
@@ -118,3 +126,18 @@ TellsUsesOfWorld t w b =
 -- whether one fails that an interface needs where nothing is imported
 abbrev pub TellsWrappedUses : Test → InterfaceId → Bool → Type 0
 TellsWrappedUses t i b = KnowsAll t.types.now t.unnamed.now → Decides b (NeededBy t.is_outer [] (instance_of t.types.now i))
+
+-- ---- of a package's world
+
+-- whether a use fails that it or one of its imports needs
+abbrev pub TellsUsesOfPackage : Test → WorldId → Bool → Type 0
+TellsUsesOfPackage t w b =
+    KnowsAll t.types.now t.unnamed.now
+    → Decides b (SomeNeeded t.is_outer (imports_of (stated_world t.types.now w)) (uses_of (stated_world t.types.now w))
+    (imports_of (stated_world t.types.now w)))
+
+-- or one of its exports, beside its exports
+abbrev pub TellsUsesOfPackageExports : Test → WorldId → Bool → Type 0
+TellsUsesOfPackageExports t w b =
+    KnowsAll t.types.now t.unnamed.now
+    → Decides b (SomeNeeded t.is_outer (given_to_exports (stated_world t.types.now w)) [] (exports_of (stated_world t.types.now w)))

@@ -12,7 +12,7 @@ use Rattle.wac_types_base.specs.Collection.{Stands}
 use Rattle.wac_types_base.specs.Stated.{Stated, Used, stated_of, world_of}
 use Rattle.wac_composition.specs.Writable.{holder, is_given, item_in, given_in, stands_as, unwritable, as_defined}
 use Rattle.wac_composition.specs.Writable.{Holder as Held}
-use Rattle.wac_composition.specs.NotWritten.{component_holder, ComponentFails}
+use Rattle.wac_composition.specs.NotWritten.{component_holder, ComponentFails, PackageCannotBeWritten}
 use Rattle.wac_graph_scopes.specs.declared.parts.Use.{Use}
 use Rattle.wac_graph_scopes.specs.declared.parts.Item.{Item}
 use Rattle.wac_types_base.specs.Parts.{identifier_in}
@@ -145,11 +145,11 @@ abbrev pub TellsDefinition : Test → Holder → Item → Bool → Type 0
 TellsDefinition t s x b =
     TellsIn t.types.now s x.kind (λ h. unwritable (as_defined (stated_of t.types.now x.kind)) x.name.now h t.is_outer) b
 
--- whether a component type that stands cannot be written, under any name and in anything
+-- whether the component type of a package that stands cannot be written
 abbrev pub TellsPackage : Test → WorldId → Bool → Type 0
 TellsPackage t w b =
-    Stands t.types.now (ItemKind.Component w) → (n : Name) (h : Held)
-    → b ≡ item_unwritable t.types.now t.is_outer n (ItemKind.Component w) h
+    Stands t.types.now (ItemKind.Component w)
+    → Decides b (PackageCannotBeWritten (stated_of t.types.now (ItemKind.Component w)))
 
 -- whether an item that stands cannot be written where nothing stands beside it
 abbrev pub TellsAlone : Test → Item → Bool → Type 0

@@ -1,10 +1,11 @@
 //! Which types cannot be written.
 
-ghost use Rattle.std.specs.Prelude.{◌≡◌, [], is_some, IfSome, OnOk, IfOk};
+ghost use Rattle.std.specs.Prelude.{◌≡◌, [], true, is_some, IfSome, OnOk, IfOk};
 ghost use Rattle.wac_types_base.specs.declared.item.ValueType.{ValueType};
 ghost use Rattle.wac_types_base.specs.declared.item.ItemKind.{ItemKind};
 ghost use Rattle.wac_types_base.specs.declared.item.«Type».{«Type» as TypeKind};
 ghost use Rattle.wac_types_base.specs.Collection.{Stands};
+ghost use Rattle.wac_types_base.specs.Entries.{value_at};
 ghost use Rattle.wac_writable.specs.Holders.{Keeps, resource_in};
 ghost use Rattle.wac_writable.specs.Values.{IsHandleOf, TellsRoot, TellsUnused, TellsValue, TellsPlaces, value_in_slot};
 ghost use Rattle.wac_writable.specs.Items.{IsSimple, module_unwritable};
@@ -14,7 +15,7 @@ ghost use Rattle.wac_writable.specs.Tests.{TellsImports, TellsWorldExports, Tell
 ghost use Rattle.wac_writable.specs.Tests.{TellsAlone, TellsOuter, TellsWrapped, TellsDefinition, TellsPackage};
 ghost use Rattle.wac_writable.specs.Givers.{TellsImported, TellsAdded, TellsUse, TellsAt, TellsDirect, TellsNeeded};
 ghost use Rattle.wac_writable.specs.Givers.{TellsWorldUses, TellsUsesOfImports, TellsUsesOfExports, TellsAllUses};
-ghost use Rattle.wac_writable.specs.Givers.{TellsUsesOfWorld, TellsWrappedUses};
+ghost use Rattle.wac_writable.specs.Givers.{TellsUsesOfWorld, TellsUsesOfPackage, TellsUsesOfPackageExports, TellsWrappedUses, items_by};
 
 use crate::holder::{Holder, is_same_item};
 use crate::modules::is_writable_module;
@@ -24,7 +25,7 @@ use std::alloc::{AllocError, Global};
 use wac_graph_scopes::parts::{
     Item, Use, export_at, export_count, export_named, identifier, import_at, import_count,
     import_named, interface_of, root_name, use_at, use_count, world_export_at, world_export_count,
-    world_of, world_use_at, world_use_count,
+    world_export_named, world_of, world_use_at, world_use_count,
 };
 use wac_types_base::{
     DefinedTypeId, InterfaceId, ItemKind, ModuleTypeId, ResourceId, Type, Types, ValueType, WorldId,
@@ -342,10 +343,34 @@ fn gives_used(test: Test<'_>, import: ItemKind, used: Use<'_>) -> Result<bool, A
     stands_for(test, item, export_named(test.types, id, used.there))
 }
 
-/// A component type whose items use interfaces.
+/// What gives a component type the types that its items use.
+#[derive(Clone, Copy)]
+enum GivenBy {
+    Nothing,
+    /// The imports of a world.
+    Imports(WorldId),
+    /// The exports of a world, and its imports under other names.
+    Exports(WorldId),
+}
+
+/// The item that stands there under a name.
+fn item_given(types: &Types, by: GivenBy, name: &str) -> Option<ItemKind>
+    ensures value { result ≡ value_at (items_by types.now by) name.now }
+    ensures stands { IfSome result (Stands types.now) }
+{
+    match by {
+        GivenBy::Nothing => None,
+        GivenBy::Imports(world) => import_named(types, world, name),
+        GivenBy::Exports(world) => match world_export_named(types, world, name) {
+            Some(item) => Some(item),
+            None => import_named(types, world, name),
+        },
+    }
+}
+
+/// What is known of the uses of a component type's items.
 struct Giver {
-    /// If there is one.
-    world: Option<WorldId>,
+    given_by: GivenBy,
     /// The interfaces whose uses were looked at.
     seen: IndexSet<InterfaceId>,
     /// Those whose types do not fail.
@@ -355,7 +380,7 @@ struct Giver {
 impl Drop for Giver {
     fn drop(self) {
         let Giver {
-            world: _,
+            given_by: _,
             seen: _,
             fine: _,
         } = self;
@@ -363,28 +388,25 @@ impl Drop for Giver {
 }
 
 impl Giver {
-    fn new(alloc: Global, world: Option<WorldId>) -> Self
-        ensures world { result.world ≡ world }
+    fn new(alloc: Global, given_by: GivenBy) -> Self
+        ensures given_by { result.given_by ≡ given_by }
         ensures seen { result.seen.keys ≡ [] }
         ensures fine { result.fine.keys ≡ [] }
     {
         Giver {
-            world,
+            given_by,
             seen: IndexSet::new(alloc),
             fine: IndexSet::new(alloc),
         }
     }
 
-    /// Whether its imports give what is used.
+    /// Whether what is used is given.
     fn gives(&self, test: Test<'_>, used: Use<'_>, name: &str) -> Result<bool, AllocError>
-        ensures { IfOk result (TellsImported test.entry self.now.world name.now used.entry) }
+        ensures { IfOk result (TellsImported test.entry self.now.given_by name.now used.entry) }
     {
         test.types.see_acyclic();
-        match self.world {
-            Some(world) => match import_named(test.types, world, name) {
-                Some(import) => gives_used(test, import, used),
-                None => Ok(false),
-            },
+        match item_given(test.types, self.given_by, name) {
+            Some(item) => gives_used(test, item, used),
             None => Ok(false),
         }
     }
@@ -581,7 +603,7 @@ fn all_uses_fail(test: Test<'_>, giver: &mut Giver, id: WorldId) -> Result<bool,
 fn uses_of_world_fail(test: Test<'_>, id: WorldId) -> Result<bool, AllocError>
     ensures { IfOk result (TellsUsesOfWorld test.entry id) }
 {
-    let mut giver = Giver::new(test.alloc, Some(id));
+    let mut giver = Giver::new(test.alloc, GivenBy::Imports(id));
     all_uses_fail(test, &mut giver, id)
 }
 
@@ -652,7 +674,7 @@ pub fn unwritable_outer(test: Test<'_>, world: WorldId) -> Result<Option<usize>,
 fn wrapped_uses_fail(test: Test<'_>, id: InterfaceId) -> Result<bool, AllocError>
     ensures { IfOk result (TellsWrappedUses test.entry id) }
 {
-    let mut giver = Giver::new(test.alloc, None);
+    let mut giver = Giver::new(test.alloc, GivenBy::Nothing);
     uses_fail(test, &mut giver, ItemKind::Instance(id))
 }
 
@@ -700,12 +722,41 @@ pub fn is_unwritable_definition(
     }
 }
 
+/// Whether a use fails that a package's world or one of its imports needs.
+fn uses_of_package_fail(test: Test<'_>, id: WorldId) -> Result<bool, AllocError>
+    ensures { IfOk result (TellsUsesOfPackage test.entry id) }
+{
+    let mut giver = Giver::new(test.alloc, GivenBy::Imports(id));
+    if world_uses_fail(test, &mut giver, id)? {
+        return Ok(true);
+    }
+    uses_of_imports_fail(test, &mut giver, id)
+}
+
+/// Whether a use fails that an export of a package's world needs.
+fn uses_of_package_exports_fail(test: Test<'_>, id: WorldId) -> Result<bool, AllocError>
+    ensures { IfOk result (TellsUsesOfPackageExports test.entry id) }
+{
+    let mut giver = Giver::new(test.alloc, GivenBy::Exports(id));
+    uses_of_exports_fail(test, &mut giver, id)
+}
+
 /// Whether a package's world cannot be written as the type of an import.
 pub fn is_unwritable_package(test: Test<'_>, world: WorldId) -> Result<bool, AllocError>
+    requires { test.is_outer ≡ true }
     ensures { IfOk result (TellsFound test.entry (TellsPackage test.entry world)) }
 {
     test.types.see_acyclic();
-    world_fails(test, world)
+    if test.unnamed.is_found_of_world(test.types, world) {
+        return Ok(true);
+    }
+    if uses_of_package_fail(test, world)? {
+        return Ok(true);
+    }
+    if uses_of_package_exports_fail(test, world)? {
+        return Ok(true);
+    }
+    items_of_world_fail(test, world)
 }
 
 /// Whether an item cannot be written where nothing stands beside it.

@@ -1,4 +1,4 @@
-use Rattle.std.proofs.Common.{◌≡◌, ◌∷◌, [], ◌++◌, ◌≤◌, List, ℕ, length, take, refl, sym, ap, ◌∙◌, subst, arith, inl, inr}
+use Rattle.std.proofs.Common.{◌≡◌, ◌∷◌, [], ◌++◌, ◌≤◌, ◌<◌, List, ℕ, Some, slice_get, length, take, refl, sym, ap, ◌∙◌, subst, arith, inl, inr}
 use Rattle.wac_types_base.specs.declared.item.ItemKind.{ItemKind}
 use Rattle.wac_types_base.specs.Graph.{Among}
 use Rattle.wac_types_base.specs.Entries.{Name, names_of, put_name}
@@ -7,23 +7,28 @@ use Rattle.wac_types_fit.specs.Trees.{tree_in}
 use Rattle.wac_graph_bytes.specs.declared.value.Description.{Description}
 use Rattle.wac_graph_bytes.specs.Typing.{Known}
 use Rattle.wac_graph_bytes.specs.Views.{declarations_of}
-use Rattle.wac_graph_scopes.specs.declared.used.UsedTypes.{UsedTypes}
 use Rattle.wac_graph_scopes.specs.Parts.{exports_of}
 use Rattle.wac_graph_scopes.specs.Items.{Describes, ItemsWritten, StatesInstance}
 use Rattle.wac_graph_scopes.proofs.PartLaws.{exports_there, name_at}
-use Rattle.wac_graph_scopes.proofs.ItemLaws.{used_deeper, export_follows}
+use Rattle.wac_graph_scopes.proofs.ItemLaws.{used_deeper, index_follows}
 use Rattle.wac_graph_scopes.proofs.WritingLaws.{writes_none, writes_more, states_instance, instance_described, interface_stands, instance_reads, component_reads, type_given, instance_declared, component_declared, described_entry, no_entry, take_or, all_taken, put_there, put_keeps, among_has, value_here}
 use Rattle.wac_types_base.proofs.Lists.{not_among}
 use Rattle.std.proofs.Common.{get_or}
 use Rattle.std.proofs.lemmas.List.{take_all}
-use Rattle.std.proofs.lemmas.Option.{slice_get-get_or}
+use Rattle.std.proofs.lemmas.Option.{slice_get-get_or, slice_get_within}
+use Rattle.std.proofs.lemmas.List.{length-map}
+use Rattle.wac_graph_bytes.specs.declared.value.Sort.TheVariants as sort
+use Rattle.wac_graph_bytes.specs.Typing.{Item, found}
+use Rattle.wac_types_base.proofs.Looked.{take-one_more}
+use Rattle.wac_types_fit.proofs.Items.{Among-last}
+use Rattle.wac_graph_scopes.specs.Items.{IsInstanceAt, sort_of}
 use Rattle.wac_types_base.proofs.Looked.{put_name-new}
 use Rattle.wac_graph_scopes.specs.Orders.{IsOrder}
 use Rattle.wac_graph_scopes.specs.Parts.{imports_of, world_exports_of}
 use Rattle.wac_graph_scopes.specs.Imports.{WritesWorld, MayDescribeIn, ExportsWritten, names_at}
 use Rattle.wac_graph_scopes.specs.Items.{StatesComponent}
 use Rattle.wac_graph_scopes.proofs.OrderLaws.{distinct-left, distinct-right}
-use Rattle.wac_graph_scopes.proofs.ImportLaws.{written, world_describes, world_exports, no_name_at, name_added, next_new, next_names, all_named, others_new, ordered_names, states_component, component_described, world_stands}
+use Rattle.wac_graph_scopes.proofs.ImportLaws.{written, world_describes, world_exports_indexed, place_of_name, no_name_at, name_added, next_new, next_names, all_named, others_new, ordered_names, states_component, component_described, world_stands}
 use Rattle.std.proofs.lemmas.Result.{err_from_is_err_and, IfOk-weaker}
 use Rattle.wac_graph_scopes.proofs.RefusedLaws.{interface_unsaid, world_unsaid}
 use Rattle.wac_graph_scopes.proofs.+types.Goals as goal
@@ -33,7 +38,7 @@ items::push_instance_type-returns-clause-states m c stands w outer i h are =
     let types = c.args.types.now in
     let t = tree_in types (ItemKind.Instance c.args.id) in
     let inner = c.in_ok-inner.inner in
-    let deep = used_deeper w types (i.here ∷ outer) c.args.around.depth inner.depth c.args.around.used.now.all.items inner.used.now.all.items c.in_ok-inner.ensures.depth (ap (λ (u : UsedTypes). u.all.items) c.in_ok-inner.ensures.used) are in
+    let deep = used_deeper w types (i.here ∷ outer) c.args.around.depth inner.depth c.args.around.used.now inner.used.now c.in_ok-inner.ensures.depth c.in_ok-inner.ensures.used are in
     let reads = c.in_ok-declarations.ensures stands w (i.here ∷ outer) deep in
     IfOk-weaker c.add_type.result _ _ (λ k a. type_given w types outer i t c.add_type.new.self k a) (c.add_type.ensures.adds w types outer i (Known t) h (instance_reads w outer i c.in_ok-declarations.declarations t reads))
 
@@ -68,7 +73,7 @@ items::export_other_at-returns-in_ok-add_name-in-Some m c stands w outer around 
     let given = c.args.given.now in
     let k = o.writing in
     let entry = c.in-Some.ensures.entry in
-    let e = c.in_ok-export_item-in-Some.ensures c.in-Some.ensures.inside.0 w outer k.inside k.stands (around k.inside.here) in
+    let e = (c.in_ok-export_item-in-Some.ensures c.in-Some.ensures.inside.0 w outer k.inside k.stands (around k.inside.here)).exported in
     let more = c.in_ok-add_name-in-Some.ensures in
     let here = name_at es c.args.at n item.kind entry in
     record {
@@ -91,7 +96,7 @@ items::export_item-returns m c stands w outer i h are =
     let types = c.args.types.now in
     let n = c.args.item.name.now in
     let d = c.in_ok-description.ensures.describes w outer i h are in
-    IfOk-weaker c.export_described.result _ _ (λ u e. export_follows w types outer i d.after n (tree_in types c.args.item.kind) c.describe.new.scope c.export_described.new.scope d.goes e)
+    IfOk-weaker c.export_described.result _ _ (λ u e. index_follows w types outer i d.after n c.args.item.kind c.describe.new.scope c.export_described.new.scope u d.goes e)
     (c.export_described.ensures w outer d.after d.goes.stands stands d.sorted (d.reads n))
 
 pub items::describe-returns-in-Some-clause-describes : goal.items::describe-returns-in-Some-clause-describes
@@ -180,7 +185,7 @@ imports::ImportScope::export-returns m c w outer imported exported stands is new
     let n = c.args.item.name.now in
     let k = (c.in_ok-prepare.ensures w outer h.writing.inside imported exported (written w types outer world imported exported c.args.self.now h)).goes in
     let i = k.writing.inside in
-    IfOk-weaker c.export_item.result _ _ (λ u e. world_exports w types outer world imported exported c.prepare.new.self c.export_item.new.scope k n (tree_in types c.args.item.kind) (exported ++ n ∷ []) is e new (sym (put_name-new exported n new)))
+    IfOk-weaker c.export_item.result _ _ (λ u e. world_exports_indexed w types outer world imported exported c.prepare.new.self c.export_item.new.scope k n c.args.item.kind (exported ++ n ∷ []) u is e new (sym (put_name-new exported n new)))
     (c.export_item.ensures stands w outer i k.writing.stands k.used)
 
 pub worlds::write_imports-loop-at-preserved : goal.worlds::write_imports-loop-at-preserved
@@ -204,8 +209,24 @@ worlds::write_imports-returns m c w outer imported exported dn d new h =
     let le : length order ≤ c.loop-at.at-index = omega (arith, c.loop-at-test.false) in
     subst (λ (ks : List ℕ). WritesWorld w types outer world c.loop-at.scope (imported ++ names_at (names_of (imports_of types world)) ks) exported) (take_all c.loop-at.at-index order le) (c.loop-at.invariant w outer imported exported dn d new h)
 
+pub worlds::export_other-returns-in-Some : goal.worlds::export_other-returns-in-Some
+worlds::export_other-returns-in-Some m c w outer imported exported stands is new h =
+    let types = c.args.all.types.now in
+    let world = c.args.all.world in
+    let n = c.args.item.name.now in
+    let id = c.in-Some.id in
+    let e = c.in_ok-index.ensures w outer imported exported stands is new h in
+    let i = e.goes.writing.inside in
+    let instance : IsInstanceAt w (i.here ∷ outer) (tree_in types (ItemKind.Instance id)) c.in_ok-index.index =
+    (Item n sort.Instance (tree_in types (ItemKind.Instance id)), subst (λ (k : ItemKind). found (i.here ∷ outer) sort.Instance c.in_ok-index.index ≡ Some (Item n sort.Instance (tree_in types k))) c.in-Some.ensures (e.means sort.Instance (ap sort_of c.in-Some.ensures)), refl) in
+    IfOk-weaker c.alias_exported.result _ _ (λ u on. on.goes)
+    (c.alias_exported.ensures w outer i imported (exported ++ n ∷ []) (written w types outer world imported (exported ++ n ∷ []) c.export.new.self e.goes) instance)
+
+pub worlds::export_other-returns-in-None : goal.worlds::export_other-returns-in-None
+worlds::export_other-returns-in-None m c w outer imported exported stands is new h = (c.in_ok-index.ensures w outer imported exported stands is new h).goes
+
 pub worlds::export_other_at-returns-in_ok-add_name-in-Some : goal.worlds::export_other_at-returns-in_ok-add_name-in-Some
-worlds::export_other_at-returns-in_ok-add_name-in-Some m c w outer imported o =
+worlds::export_other_at-returns-in_ok-add_name-in-Some m c w outer imported places o =
     let types = c.args.all.types.now in
     let world = c.args.all.world in
     let es = world_exports_of types world in
@@ -214,28 +235,55 @@ worlds::export_other_at-returns-in_ok-add_name-in-Some m c w outer imported o =
     let given = c.args.exported.now in
     let entry = c.in-Some.ensures.entry in
     let fresh = not_among given n c.in-Some.ensures.new in
-    let e = c.in_ok-export-in-Some.ensures w outer imported given c.in-Some.ensures.inside.0 (item.kind, value_here es c.args.at n item.kind c.requires entry, refl) fresh o.goes in
+    let e = c.in_ok-export_other-in-Some.ensures w outer imported given c.in-Some.ensures.inside.0 (item.kind, value_here es c.args.at n item.kind c.requires entry, refl) fresh o.goes in
     let more = c.in_ok-add_name-in-Some.ensures in
     let here = name_at es c.args.at n item.kind entry in
     record {
-      goes = subst (λ (l : List Name). WritesWorld w types outer world c.export.new.self imported l) (sym (more ∙ put_name-new given n fresh)) e;
-      all_before = λ p a. elim (take_or p (names_of es) c.args.at a) [
-        | inl old ↦ subst (λ (l : List Name). Among p l) (sym more) (put_keeps given n p (o.all_before p old))
-        | inr at ↦ let same : n ≡ p = cc (here, at) in subst (λ (l : List Name). Among p l) (sym more) (subst (λ (x : Name). Among x (put_name given n)) same (put_there given n))
+      goes = subst (λ (l : List Name). WritesWorld w types outer world c.export_other.new.scope imported l) (sym (more ∙ put_name-new given n fresh)) e;
+      those = λ k p a at. elim (Among-last places c.args.at k a) [
+        | inl old ↦ subst (λ (l : List Name). Among p l) (sym more) (put_keeps given n p (o.those k p old at))
+        | inr same ↦
+            let there = ap (slice_get (names_of es)) (sym same) ∙ at in
+            let is : n ≡ p = cc (here, there) in
+            subst (λ (l : List Name). Among p l) (sym more) (subst (λ (x : Name). Among x (put_name given n)) is (put_there given n))
       ];
     }
 
 pub worlds::export_other_at-returns-in-None : goal.worlds::export_other_at-returns-in-None
-worlds::export_other_at-returns-in-None m c w outer imported o = record {
+worlds::export_other_at-returns-in-None m c w outer imported places o = record {
   goes = o.goes;
-  all_before = λ p a. elim (take_or p (names_of (world_exports_of c.args.all.types.now c.args.all.world)) c.args.at a) [ inl old ↦ o.all_before p old | inr at ↦ among_has c.args.exported.now p (c.in-None.ensures.none p at) ];
+  those = λ k p a at. elim (Among-last places c.args.at k a) [
+    | inl old ↦ o.those k p old at
+    | inr same ↦ among_has c.args.exported.now p (c.in-None.ensures.none p (ap (slice_get (names_of (world_exports_of c.args.all.types.now c.args.all.world))) (sym same) ∙ at))
+  ];
 }
+
+pub worlds::export_in_order-loop-at-preserved : goal.worlds::export_in_order-loop-at-preserved
+worlds::export_in_order-loop-at-preserved m c w outer imported h =
+    let order = c.args.order.now in
+    let i = c.loop-at.at-index in
+    let k = get_or order i 0 in
+    let at = slice_get-get_or order i 0 c.loop-at-test.true in
+    let a = c.loop-at.invariant w outer imported h in
+    let b = c.in_ok-export_other_at.ensures w outer imported (take i order) a in
+    subst (λ (ks : List ℕ). ExportsWritten w c.args.all.types.now outer c.args.all.world ks c.export_other_at.new.scope imported c.export_other_at.new.exported) (sym (take-one_more order i k at)) b
+
+pub worlds::export_in_order-returns : goal.worlds::export_in_order-returns
+worlds::export_in_order-returns m c w outer imported h =
+    let order = c.args.order.now in
+    let le : length order ≤ c.loop-at.at-index = omega (arith, c.loop-at-test.false) in
+    subst (λ (ks : List ℕ). ExportsWritten w c.args.all.types.now outer c.args.all.world ks c.loop-at.scope imported c.loop-at.exported) (take_all c.loop-at.at-index order le) (c.loop-at.invariant w outer imported h)
 
 pub worlds::export_others-returns : goal.worlds::export_others-returns
 worlds::export_others-returns m c w outer imported h =
     let types = c.args.all.types.now in
-    let end : c.loop-at.at ≡ length (world_exports_of types c.args.all.world) = omega (arith, c.loop-at-test.false, c.world_export_count-count.ensures.len) in
-    subst (λ (n : ℕ). ExportsWritten w types outer c.args.all.world n c.loop-at.scope imported c.loop-at.exported) end (c.loop-at.invariant w outer imported h)
+    let world = c.args.all.world in
+    let es = world_exports_of types world in
+    let order = c.as_slice.result.now in
+    let is : IsOrder (length es) [] order = subst (λ (l : List ℕ). IsOrder (length es) [] l) (sym c.as_slice.ensures.value) c.in_ok-order.ensures.order in
+    IfOk-weaker c.export_in_order.result _ _
+    (λ u o. (o.goes, λ n m. let a = place_of_name (names_of es) n m in let within : a.0 < length es = omega (arith, slice_get_within (names_of es) a.0 n a.1, length-map es (λ e. e.0)) in o.those a.0 n (is.all a.0 within) a.1))
+    (c.export_in_order.ensures w outer imported h)
 
 pub worlds::write_before_others-returns : goal.worlds::write_before_others-returns
 worlds::write_before_others-returns m c w outer h =
@@ -258,18 +306,17 @@ pub worlds::write_component-returns : goal.worlds::write_component-returns
 worlds::write_component-returns m c stands w outer =
     let types = c.args.all.types.now in
     let world = c.args.all.world in
-    let b = c.in_ok-exported.ensures w outer (c.requires w types outer world) in
+    let b = c.in_ok-exported.ensures w outer (c.requires w outer) in
     let o = c.in_ok-export_others.ensures w outer b.0 b.1 in
-    let all = λ (n : Name) (x : Among n (names_of (world_exports_of types world))). o.all_before n (all_taken (world_exports_of types world) n x) in
     subst (λ ds. StatesComponent w outer (tree_in types (ItemKind.Component world)) (declarations_of ds)) (sym c.take_declarations.ensures)
-    (states_component w types c.see_acyclic.ensures outer world c.export_others.new.scope b.0 c.export_others.new.exported stands o.goes b.2 all)
+    (states_component w types c.see_acyclic.ensures outer world c.export_others.new.scope b.0 c.export_others.new.exported stands o.0 b.2 o.1)
 
 pub items::describe-returns-in_err-index-clause-refused : goal.items::describe-returns-in_err-index-clause-refused
 items::describe-returns-in_err-index-clause-refused m c stands =
     let p = err_from_is_err_and c.from_residual.result c.from_residual.ensures.1 in
-    rw (p.1, p.2) (interface_unsaid c.args.types.now c.args.kind c.in-Some.id c.push_instance_type.new.scope c.in_err-index.field-0.0 c.in-Some.ensures.kind)
+    rw (p.1, p.2) (interface_unsaid c.args.types.now c.args.kind c.in-Some.id c.args.scope.now c.push_instance_type.new.scope c.in_err-index.field-0.0 c.in-Some.ensures.kind)
 
 pub items::describe-returns-in_err-index-2-clause-refused : goal.items::describe-returns-in_err-index-2-clause-refused
 items::describe-returns-in_err-index-2-clause-refused m c stands =
     let p = err_from_is_err_and c.from_residual-in_err-index-2.result c.from_residual-in_err-index-2.ensures.1 in
-    rw (p.1, p.2) (world_unsaid c.args.types.now c.args.kind c.in-Some-world_of.id c.push_component_type.new.scope c.in_err-index-2.field-0.0 c.in-Some-world_of.ensures.kind)
+    rw (p.1, p.2) (world_unsaid c.args.types.now c.args.kind c.in-Some-world_of.id c.args.scope.now c.push_component_type.new.scope c.in_err-index-2.field-0.0 c.in-Some-world_of.ensures.kind)

@@ -30,11 +30,17 @@ decreases-worlds::write_before_others l = 16 * size_of l.all.types.now (ItemKind
 abbrev pub decreases-worlds::write_component : goal.decreases-worlds::write_component
 decreases-worlds::write_component l = 16 * size_of l.all.types.now (ItemKind.Component l.all.world) + 3
 
+abbrev pub decreases-worlds::export_other : goal.decreases-worlds::export_other
+decreases-worlds::export_other l = 16 * size_of l.all.types.now l.item.kind + 10
+
 abbrev pub decreases-worlds::export_other_at : goal.decreases-worlds::export_other_at
 decreases-worlds::export_other_at l = 16 * size_of l.all.types.now (ItemKind.Component l.all.world) + 0
 
+abbrev pub decreases-worlds::export_in_order : goal.decreases-worlds::export_in_order
+decreases-worlds::export_in_order l = 16 * size_of l.all.types.now (ItemKind.Component l.all.world) + 1
+
 abbrev pub decreases-worlds::export_others : goal.decreases-worlds::export_others
-decreases-worlds::export_others l = 16 * size_of l.all.types.now (ItemKind.Component l.all.world) + 1
+decreases-worlds::export_others l = 16 * size_of l.all.types.now (ItemKind.Component l.all.world) + 2
 
 abbrev pub decreases-worlds::write_imports : goal.decreases-worlds::write_imports
 decreases-worlds::write_imports l = 16 * size_of l.all.types.now (ItemKind.Component l.all.world) + 1
@@ -73,5 +79,6 @@ invariant-worlds::write_imports-loop-at l = (w : Worlds) (outer : List Scope) (i
     → WritesWorld w l.all.types.now outer l.all.world l.fn.scope imported exported
     → WritesWorld w l.all.types.now outer l.all.world l.scope (imported ++ names_at (names_of (imports_of l.all.types.now l.all.world)) (take l.at-index l.order)) exported
 
-abbrev pub invariant-worlds::export_others-loop-at : goal.invariant-worlds::export_others-loop-at
-invariant-worlds::export_others-loop-at l = (w : Worlds) (outer : List Scope) (imported : List Name) → WritesWorld w l.all.types.now outer l.all.world l.fn.scope imported l.fn.exported → ExportsWritten w l.all.types.now outer l.all.world l.at l.scope imported l.exported
+abbrev pub invariant-worlds::export_in_order-loop-at : goal.invariant-worlds::export_in_order-loop-at
+invariant-worlds::export_in_order-loop-at l = (w : Worlds) (outer : List Scope) (imported : List Name) → WritesWorld w l.all.types.now outer l.all.world l.fn.scope imported l.fn.exported
+    → ExportsWritten w l.all.types.now outer l.all.world (take l.at-index l.order) l.scope imported l.exported

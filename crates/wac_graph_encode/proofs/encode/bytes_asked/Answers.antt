@@ -1,6 +1,7 @@
 use Rattle.std.proofs.Common.{ℕ, List, Result, Ok, Err, refl, sym, subst}
 use Rattle.std.specs.declared.alloc.Global.{Global}
 use Rattle.std.specs.declared.vec.Vec.{Vec}
+use Rattle.wac_types_base.specs.Entries.{names_of}
 use Rattle.wac_types_base.specs.Collection.{IsAcyclic}
 use Rattle.wac_types_base.proofs.Adding.{Grows-trans}
 use Rattle.wac_graph_asks.specs.declared.asks.Definition.{Definition}
@@ -10,16 +11,46 @@ use Rattle.wac_graph_encode.specs.declared.fault.BytesError.{BytesError}
 use Rattle.wac_graph_encode.specs.Faults.{bytes_refusal}
 use Rattle.wac_graph_causes.specs.Circling.{CirclesPass, TellsCircle}
 use Rattle.wac_graph_causes.specs.Refusals.{unwritten_refusal}
-use Rattle.wac_graph_encode.specs.Finished.{MeansAsked, RefusesPrepared, UnfitAsked}
+use Rattle.wac_graph_encode.specs.Finished.{HasAllOf, IsThere, MeansAsked, RefusesPrepared, UnfitAsked}
 use Rattle.wac_graph_encode.specs.Formed.{AreCopied, AreFormed}
 use Rattle.wac_graph_encode.proofs.Circling.{waits_not, waits_told}
 use Rattle.wac_graph_encode.proofs.Forming.{all_grown}
-use Rattle.wac_graph_encode.proofs.Preparing.{held_prepared, means_imported, means_nested, past_size, to_hand_out}
+use Rattle.wac_graph_encode.proofs.Preparing.{all_defined, held_prepared, means_imported, means_nested, past_size, there, to_hand_out}
 use Rattle.wac_graph_encode.proofs.Refusing.{alike_refused, circle_refused, of_processor, of_size, size_refused}
 use Rattle.wac_graph_encode.proofs.encode.bytes_asked.Goals as goal
 
 pub check_circles-requires-clause-copies : goal.check_circles-requires-clause-copies
 check_circles-requires-clause-copies c = subst (CopiesStand c.written_definitions.new.types) (sym c.deref-2.ensures.value) c.in_ok-definitions.ensures.stand
+
+pub bytes_of-requires-clause-there : goal.bytes_of-requires-clause-there
+bytes_of-requires-clause-there c =
+    let g = c.args.graph.now in
+    let old = c.args.asked.now in
+    let o = c.args.outers.now in
+    let mid = c.written_definitions.new.types in
+    let new = record old { types = c.check_circles.new.types } in
+    let made = c.in_ok-definitions.definitions in
+    let grows = Grows-trans old.types mid new.types c.in_ok-definitions.ensures.grows c.in_ok-check_circles.ensures.grows in
+    let copied = subst (λ (xs : List Definition). AreCopied g.types old.types xs) (sym c.deref.ensures.value) c.requires.prepared.copies in
+    let formed = all_grown g.types mid new.types c.in_ok-check_circles.ensures.grows old.definitions.items made.items (subst (λ (xs : List Definition). AreFormed g.types mid xs made.items) c.deref.ensures.value (c.in_ok-definitions.ensures.forms g.types copied)) in
+    subst (IsThere g new o) (sym c.deref-3.ensures.value)
+    (there g old o c.requires.prepared c.see_sound.ensures (subst IsAcyclic c.types.ensures c.see_acyclic.ensures) c.args.options.now new made grows refl formed)
+
+pub bytes_of-requires-clause-all : goal.bytes_of-requires-clause-all
+bytes_of-requires-clause-all c =
+    let g = c.args.graph.now in
+    let old = c.args.asked.now in
+    let o = c.args.outers.now in
+    let mid = c.written_definitions.new.types in
+    let new = record old { types = c.check_circles.new.types } in
+    let made = c.in_ok-definitions.definitions in
+    let copied = subst (λ (xs : List Definition). AreCopied g.types old.types xs) (sym c.deref.ensures.value) c.requires.prepared.copies in
+    let formed = all_grown g.types mid new.types c.in_ok-check_circles.ensures.grows old.definitions.items made.items (subst (λ (xs : List Definition). AreFormed g.types mid xs made.items) c.deref.ensures.value (c.in_ok-definitions.ensures.forms g.types copied)) in
+    subst (HasAllOf g (names_of old.packages.entries)) (sym c.deref-3.ensures.value) (record {
+      packages = c.requires.prepared.packages;
+      definitions = all_defined g old o c.requires.prepared new.types made.items formed;
+      aliases = c.requires.aliases;
+    })
 
 pub returns-clause-means : goal.returns-clause-means
 returns-clause-means c = λ prepared.

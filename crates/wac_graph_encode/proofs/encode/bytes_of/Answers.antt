@@ -3,6 +3,15 @@ use Rattle.wac_graph_scopes.specs.declared.imports.Called.{Called}
 use Rattle.wac_graph_asks.specs.Outers.{IsOuters}
 use Rattle.wac_graph_encode.proofs.encode.bytes_of.Goals as goal
 
+pub bytes_wired-requires-clause-to : goal.bytes_wired-requires-clause-to
+bytes_wired-requires-clause-to c =
+    let there = c.requires.there in
+    record {
+      outers = subst (λ (xs : List Called). IsOuters c.args.graph.now c.args.asked.now.types c.args.outers.now.world xs) (sym c.as_slice.ensures.value) there.0;
+      worlds = there.1;
+      definitions = there.2;
+    }
+
 pub returns-clause-means : goal.returns-clause-means
 returns-clause-means c = λ h.
     let outers = subst (λ (xs : List Called). IsOuters c.args.graph.now c.args.asked.now.types c.args.outers.now.world xs) (sym c.as_slice.ensures.value) h.0 in

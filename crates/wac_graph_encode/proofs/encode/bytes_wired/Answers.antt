@@ -13,7 +13,9 @@ use Rattle.wac_graph_encode.specs.Beginning.{AreTold, IsBegunRoot}
 use Rattle.wac_graph_encode.specs.Encoding.{nested_in, HasUnfit, StateGraph}
 use Rattle.wac_graph_encode.specs.Finished.{AreSpelled, IfOfSize, NestsBytes}
 use Rattle.wac_graph_encode.specs.Importing.{with_packages}
+use Rattle.wac_graph_encode.specs.Ready.{IsReadyWith, called_names}
 use Rattle.wac_graph_encode.proofs.Nested.{spelled_nests}
+use Rattle.wac_graph_encode.proofs.Provided.{provided}
 use Rattle.wac_graph_encode.proofs.Finishing.{AsksImported, means_graph, state_graph}
 use Rattle.wac_graph_encode.proofs.Imported.{once_with, read_beside}
 use Rattle.wac_graph_encode.proofs.RootedDefinitions.{if_ok_both}
@@ -21,6 +23,19 @@ use Rattle.wac_graph_encode.proofs.Sources.{denoted_asks, given_asks}
 use Rattle.wac_graph_encode.proofs.Refusing.{if_of_size}
 use Rattle.wac_graph_scopes.proofs.RefusedLaws.{if_err_map}
 use Rattle.wac_graph_encode.proofs.encode.bytes_wired.Goals as goal
+
+pub write_all-requires-clause-placed : goal.write_all-requires-clause-placed
+write_all-requires-clause-placed c = (c.in_ok-write_root.ensures.holds c.requires.to).placed
+
+pub write_all-requires-clause-ready : goal.write_all-requires-clause-ready
+write_all-requires-clause-ready c =
+    let x = c.args.writing in
+    let g = x.graph.now in
+    let root = c.write_root.new.root in
+    let held = c.in_ok-write_root.ensures.holds c.requires.to in
+    let finite = subst IsAcyclic c.types.ensures c.see_acyclic.ensures in
+    subst (λ (h : Graph). IsReadyWith h (called_names x.all.called.now) root) (sym c.requires.graph)
+    (provided g c.see_sound.ensures finite x.all.types.now c.see_acyclic-2.ensures x.all.world x.all.called.now c.requires.to.outers (names_of x.worlds.now.entries) x.definitions.now c.requires.all root held.packages held.definitions)
 
 pub returns-clause-means : goal.returns-clause-means
 returns-clause-means c = λ same bare to each can w told.

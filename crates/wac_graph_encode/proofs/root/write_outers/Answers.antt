@@ -3,7 +3,6 @@ use Rattle.std.proofs.lemmas.Result.{on_ok_weaker}
 use Rattle.wac_types_base.specs.Entries.{names_of}
 use Rattle.wac_graph_bytes.specs.Typing.{nothing_inside}
 use Rattle.wac_graph_scopes.specs.declared.items.ItemScope.{ItemScope}
-use Rattle.wac_graph_scopes.specs.declared.used.UsedTypes.{UsedTypes}
 use Rattle.wac_graph_scopes.specs.Imports.{names_at}
 use Rattle.wac_graph_scopes.specs.Items.{IsItemScope}
 use Rattle.wac_graph_scopes.specs.Orders.{IsOrder}
@@ -20,7 +19,7 @@ returns c is w outer =
     let sources = c.as_slice.result.now in
     let others = c.as_slice-2.result.now in
     let begun = c.in_ok-begin.ensures in
-    let h = world_begun c.begin.new.self (λ v d around. subst (λ (s : ItemScope). IsItemScope v d around nothing_inside s) (sym begun.scope) (is.scope v d around)) (ap (λ (u : UsedTypes). u.all.items) begun.used ∙ is.used) begun.places w types outer world in
+    let h = world_begun c.args.all c.begin.new.self (λ v d around. subst (λ (s : ItemScope). IsItemScope v d around nothing_inside s) (sym begun.scope) (is.scope v d around)) (begun.used ∙ is.used) begun.places begun.many w outer in
     let dn = c.in_ok-order.ensures.distinct in
     let given = ordered_names (imports_of types world) c.in_ok-order.order.sources.items c.in_ok-order.order.others.items c.in_ok-order.ensures.order in
     let half = subst (λ (l : List ℕ). IsOrder (length ns) l c.in_ok-order.order.others.items) (sym c.as_slice.ensures.value) given in

@@ -5,3 +5,6 @@ returns-clause-begins c = c.write_in-written.ensures.begins
 
 pub returns-clause-nests : goal.returns-clause-nests
 returns-clause-nests c = c.write_in-written.ensures.nests
+
+pub returns-clause-holds : goal.returns-clause-holds
+returns-clause-holds c = c.write_in-written.ensures.holds

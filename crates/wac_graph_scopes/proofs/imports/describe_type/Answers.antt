@@ -9,7 +9,7 @@ use Rattle.wac_types_fit.specs.Trees.{tree_in}
 use Rattle.wac_types_fit.proofs.Unfolded.{type_func, type_value}
 use Rattle.wac_graph_bytes.specs.declared.value.Description.TheVariants as desc
 use Rattle.wac_graph_scopes.specs.declared.items.ItemScope.{ItemScope}
-use Rattle.wac_graph_scopes.specs.ItemRefusals.{RefusedType}
+use Rattle.wac_graph_scopes.specs.ItemRefusals.{RefusedTypeApart}
 use Rattle.wac_graph_scopes.proofs.UsedLaws.{func_item, value_item}
 use Rattle.wac_graph_scopes.proofs.WritingLaws.{typed_func_stands, gives_of, item_of_type, type_described, describes_kind}
 use Rattle.wac_graph_scopes.proofs.imports.describe_type.Goals as goal
@@ -34,7 +34,7 @@ returns-in_err-index-in-Value-clause-refused c stands =
     let s : ItemScope = record c.args.scope.now { types = c.define_apart.new.scope } in
     let e = c.in_err-index-in-Value.field-0.0 in
     let there = stands_typed_value types c.in-Value.ty (subst (λ (t : TypeKind). Stands types (ItemKind.Ty t)) c.in-Value.is stands) in
-    rw (p.1, p.2) (subst (λ (t : TypeKind). RefusedType types t s e) (sym c.in-Value.is) (c.in_err-index-in-Value.ensures.refused there))
+    rw (p.1, p.2) (subst (λ (t : TypeKind). RefusedTypeApart types t c.args.scope.now s e) (sym c.in-Value.is) (c.in_err-index-in-Value.ensures.refused there))
 
 pub returns-in_ok-index-in-Func-clause-describes : goal.returns-in_ok-index-in-Func-clause-describes
 returns-in_ok-index-in-Func-clause-describes c w outer i h =
@@ -54,7 +54,7 @@ returns-in_err-index-in-Func-clause-refused c stands =
     let s = c.push_func_type.new.scope in
     let e = c.in_err-index-in-Func.field-0.0 in
     let there = stands_typed_func types c.in-Func.id (subst (λ (t : TypeKind). Stands types (ItemKind.Ty t)) c.in-Func.is stands) in
-    rw (p.1, p.2) (subst (λ (t : TypeKind). RefusedType types t s e) (sym c.in-Func.is) (c.in_err-index-in-Func.ensures.refused there))
+    rw (p.1, p.2) (subst (λ (t : TypeKind). RefusedTypeApart types t c.args.scope.now s e) (sym c.in-Func.is) (c.in_err-index-in-Func.ensures.refused there))
 
 pub returns-in_ok-index-in-Value-clause-own : goal.returns-in_ok-index-in-Value-clause-own
 returns-in_ok-index-in-Value-clause-own c own w outer i h = (c.in_ok-index-in-Value.index, refl, c.in_ok-index-in-Value.ensures.entry w outer i h.written)

@@ -32,18 +32,18 @@ pub returns-in_err-index-in-Ty-clause-refused : goal.returns-in_err-index-in-Ty-
 returns-in_err-index-in-Ty-clause-refused c =
     let p = err_from_is_err_and c.from_residual.result c.from_residual.ensures.1 in
     let e = c.in_err-index-in-Ty.field-0.0 in
-    rw (p.1, p.2) (subst (λ (k : ItemKind). RefusedItem c.args.types.now k c.push_type.new.scope e) (sym c.in-Ty.is) c.in_err-index-in-Ty.ensures.refused)
+    rw (p.1, p.2) (subst (λ (k : ItemKind). RefusedItem c.args.types.now k c.args.scope.now c.push_type.new.scope e) (sym c.in-Ty.is) c.in_err-index-in-Ty.ensures.refused)
 
 pub returns-in_err-index-in-Func-clause-refused : goal.returns-in_err-index-in-Func-clause-refused
 returns-in_err-index-in-Func-clause-refused c =
     let p = err_from_is_err_and c.from_residual-in_err-index-in-Func.result c.from_residual-in_err-index-in-Func.ensures.1 in
     let e = c.in_err-index-in-Func.field-0.0 in
     let stands = subst (Stands c.args.types.now) c.in-Func.is c.requires in
-    rw (p.1, p.2) (subst (λ (k : ItemKind). RefusedItem c.args.types.now k c.push_func_type.new.scope e) (sym c.in-Func.is) (c.in_err-index-in-Func.ensures.refused stands))
+    rw (p.1, p.2) (subst (λ (k : ItemKind). RefusedItem c.args.types.now k c.args.scope.now c.push_func_type.new.scope e) (sym c.in-Func.is) (c.in_err-index-in-Func.ensures.refused stands))
 
 pub returns-in_err-index-in-Module-clause-refused : goal.returns-in_err-index-in-Module-clause-refused
 returns-in_err-index-in-Module-clause-refused c =
     let p = err_from_is_err_and c.from_residual-in_err-index-in-Module.result c.from_residual-in_err-index-in-Module.ensures.1 in
     let e = c.in_err-index-in-Module.field-0.0 in
     let stands = subst (Stands c.args.types.now) c.in-Module.is c.requires in
-    rw (p.1, p.2) (subst (λ (k : ItemKind). RefusedItem c.args.types.now k c.push_module_type.new.scope e) (sym c.in-Module.is) (c.in_err-index-in-Module.ensures.refused stands))
+    rw (p.1, p.2) (subst (λ (k : ItemKind). RefusedItem c.args.types.now k c.args.scope.now c.push_module_type.new.scope e) (sym c.in-Module.is) (c.in_err-index-in-Module.ensures.refused stands))

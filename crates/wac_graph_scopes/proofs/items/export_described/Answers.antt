@@ -1,12 +1,11 @@
 use Rattle.std.proofs.Common.{◌≡◌, ◌∷◌, refl, ap, ◌∙◌, string_bytes}
-use Rattle.std.proofs.lemmas.Result.{IfOk-weaker}
 use Rattle.wac_types_base.specs.Entries.{Name}
 use Rattle.wac_types_base.specs.Tree.{Tree}
 use Rattle.wac_graph_bytes.specs.declared.value.Sort.{Sort}
 use Rattle.wac_types_fit.specs.Trees.{tree_in}
 use Rattle.wac_graph_bytes.specs.Counting.{description_sort}
 use Rattle.wac_graph_bytes.specs.Typing.{Item, exports_inside, described}
-use Rattle.wac_graph_scopes.proofs.WritingLaws.{export_declared, exported_item, noted_item}
+use Rattle.wac_graph_scopes.proofs.WritingLaws.{export_declared, exported_index, noted_item}
 use Rattle.wac_graph_scopes.proofs.items.export_described.Goals as goal
 
 pub returns : goal.returns
@@ -20,5 +19,5 @@ returns c w outer i h stands sorted e =
     let x : Sort × Tree = (description_sort d, t) in
     let reads = ap (λ (p : Name). described w (i.here ∷ outer) p d) same ∙ e in
     let a = c.in_ok-index.ensures.adds w types outer i (exports_inside m x i) (Item m (description_sort d) t) h (export_declared w types outer i c.in_ok-text.text d x reads) refl in
-    IfOk-weaker c.note.result _ _ (λ u s. exported_item w types outer i m n t (description_sort d) c.note.new.self same s)
-    (c.note.ensures w outer (exports_inside m x i) a.stands (noted_item w types outer i m c.args.item.kind d c.in_ok-index.index stands sorted a.index))
+    exported_index w types outer i m n c.args.item.kind d c.note.new.self c.in_ok-index.index same sorted a.index
+    (c.in_ok-note.ensures w outer (exports_inside m x i) a.stands (noted_item w types outer i m c.args.item.kind d c.in_ok-index.index stands sorted a.index))

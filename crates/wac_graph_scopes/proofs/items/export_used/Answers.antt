@@ -17,4 +17,4 @@ returns c w outer i h stands used a =
     let e = c.in_ok-own.ensures w types outer i a.there h.written a.reads in
     let x = type_exports w types outer i _ c.args.used.name.now a.there t c.args.scope.now c.export_type.new.self c.in_ok-own.own c.in_ok-text.ensures.ok a.item h e in
     let n = c.in_ok-note-2.ensures w outer x.0.after x.0.stands (notable w types (x.0.after.here ∷ outer) c.args.alias.item c.in_ok-own.own stands x.1) in
-    (t, c.in_ok-is_taken.ensures stands used c.if-not-is_taken.false, export_noted w types outer i c.args.used.name.now t _ c.note-2.new.self x.0 n)
+    (t, c.in_ok-is_taken.ensures.yes stands used c.if-not-is_taken.false, export_noted w types outer i c.args.used.name.now t _ c.note-2.new.self x.0 n)

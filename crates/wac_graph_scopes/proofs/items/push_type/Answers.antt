@@ -42,18 +42,18 @@ returns-in-Value-clause-states c w outer i h =
 pub returns-in-Resource-clause-refused : goal.returns-in-Resource-clause-refused
 returns-in-Resource-clause-refused c =
     let types = c.args.types.now in
-    subst (λ (t : TypeKind). IfErr c.resource_index.result (RefusedType types t c.args.scope.now)) (sym c.in-Resource.is) c.resource_index.ensures.refused
+    subst (λ (t : TypeKind). IfErr c.resource_index.result (RefusedType types t c.args.scope.now c.args.scope.now)) (sym c.in-Resource.is) c.resource_index.ensures.refused
 
 pub returns-in-Func-clause-refused : goal.returns-in-Func-clause-refused
 returns-in-Func-clause-refused c =
     let types = c.args.types.now in
     let id = c.in-Func.id in
     let stands = subst (λ (t : TypeKind). Stands types (ItemKind.Ty t)) c.in-Func.is c.requires in
-    subst (λ (t : TypeKind). IfErr c.push_func_type.result (RefusedType types t c.push_func_type.new.scope)) (sym c.in-Func.is) (c.push_func_type.ensures.refused (stands_typed_func types id stands))
+    subst (λ (t : TypeKind). IfErr c.push_func_type.result (RefusedType types t c.args.scope.now c.push_func_type.new.scope)) (sym c.in-Func.is) (c.push_func_type.ensures.refused (stands_typed_func types id stands))
 
 pub returns-in-Value-clause-refused : goal.returns-in-Value-clause-refused
 returns-in-Value-clause-refused c =
     let types = c.args.types.now in
     let v = c.in-Value.ty in
     let stands = subst (λ (t : TypeKind). Stands types (ItemKind.Ty t)) c.in-Value.is c.requires in
-    subst (λ (t : TypeKind). IfErr c.push_value_type.result (RefusedType types t c.push_value_type.new.scope)) (sym c.in-Value.is) (c.push_value_type.ensures.refused (stands_typed_value types v stands))
+    subst (λ (t : TypeKind). IfErr c.push_value_type.result (RefusedType types t c.args.scope.now c.push_value_type.new.scope)) (sym c.in-Value.is) (c.push_value_type.ensures.refused (stands_typed_value types v stands))

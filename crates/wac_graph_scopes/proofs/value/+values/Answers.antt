@@ -13,10 +13,11 @@ use Rattle.wac_types_fit.proofs.ValueTrees.{place_size, place_inside, defined_ho
 use Rattle.wac_graph_bytes.specs.declared.value.ValueType.TheVariants.{Primitive, Index}
 use Rattle.wac_graph_bytes.specs.Typing.{value_of}
 use Rattle.wac_graph_scopes.specs.Forms.{entry_of}
-use Rattle.wac_graph_scopes.specs.Scopes.{AnswersPlaces}
+use Rattle.wac_graph_scopes.specs.Scopes.{AnswersPlaces, FindsAll}
 use Rattle.wac_graph_scopes.proofs.ValueLaws.{value_of_tree, value_there, value_written, value_remembered, places_none, places_next, trees_next, trees_all}
 use Rattle.wac_graph_scopes.proofs.HandleLaws.{take_zero, place_none, place_some}
-use Rattle.wac_graph_scopes.proofs.RefusedLaws.{if_err_map, alias_refused, place_refused}
+use Rattle.wac_graph_scopes.proofs.PlaceLaws.{known_same_list, known_pushed}
+use Rattle.wac_graph_scopes.proofs.RefusedLaws.{if_err_map, alias_refused, place_refused, parts_refused, later_same_list}
 use Rattle.wac_graph_scopes.proofs.value.+values.Goals as goal
 
 pub push_value-push_resolved-requires : goal.push_value-push_resolved-requires
@@ -78,7 +79,7 @@ pub push_defined-returns-clause-writes : goal.push_defined-returns-clause-writes
 push_defined-returns-clause-writes t c w outer i h =
     let types = c.args.types.now in
     value_remembered w types outer i (tree_in types (ItemKind.Value (ValueType.Defined c.args.id))) c.define_entry.new.scope c.remember.new.self c.in_ok-index.index
-    (c.in_ok-index.ensures.writes w outer i c.requires.no_alias (c.known_index.ensures.keeps w outer i h)) (λ j hs e. c.in_ok-remember.ensures.known w types outer j hs e)
+    (c.in_ok-index.ensures.writes w outer i c.requires.no_alias (c.known_index.ensures.keeps w outer i h)) (λ j hs e. c.in_ok-remember.ensures.known w types outer j hs (record { reads = e }) (λ is. absurd (cc is)))
 
 pub define_entry-push_places-requires : goal.define_entry-push_places-requires
 define_entry-push_places-requires t c =
@@ -100,7 +101,7 @@ push_places-push_place-requires t c =
     (omega (arith, s.1, c.decreases), s.0)
 
 pub push_places-loop-place-init : goal.push_places-loop-place-init
-push_places-loop-place-init t c = record { resources = refl; written = λ w outer i h. places_none w c.args.types.now outer i (take 0 (place_trees c.args.types.now c.args.kind)) c.args.scope.now _ h (take_zero (place_trees c.args.types.now c.args.kind)) c.new-written.ensures.items }
+push_places-loop-place-init t c = record { resources = refl; known = λ k m. m; written = λ w outer i h. places_none w c.args.types.now outer i (take 0 (place_trees c.args.types.now c.args.kind)) c.args.scope.now _ h (take_zero (place_trees c.args.types.now c.args.kind)) c.new-written.ensures.items }
 
 pub push_places-loop-place-smaller : goal.push_places-loop-place-smaller
 push_places-loop-place-smaller t c =
@@ -110,6 +111,7 @@ push_places-loop-place-smaller t c =
 pub push_places-loop-place-preserved : goal.push_places-loop-place-preserved
 push_places-loop-place-preserved t c = record {
   resources = c.in_ok-value.ensures.resources ∙ c.loop-place.invariant.resources;
+  known = λ k m. c.in_ok-value.ensures.known k (c.loop-place.invariant.known k m);
   written = λ w outer i h.
       let types = c.args.types.now in
       let trees = place_trees types c.args.kind in
@@ -137,14 +139,36 @@ push_place-returns-in_ok-value-in-Some-clause-writes t c w outer i h = place_som
 
 pub push_value-returns-clause-refused : goal.push_value-returns-clause-refused
 push_value-returns-clause-refused t c =
-    if_err_map c.push_resolved.result (λ e h. alias_refused c.args.types.now c.see_acyclic.ensures c.args.ty c.resolve_value_type-end.result c.resolve_value_type-end.ensures.resolved c.requires c.push_resolved.new.scope e h) c.push_resolved.ensures.refused
+    if_err_map c.push_resolved.result (λ e h. alias_refused c.args.types.now c.see_acyclic.ensures c.args.ty c.resolve_value_type-end.result c.resolve_value_type-end.ensures.resolved c.requires c.args.scope.now c.push_resolved.new.scope e h) c.push_resolved.ensures.refused
 
 pub push_places-returns-in_err-value-clause-refused : goal.push_places-returns-in_err-value-clause-refused
 push_places-returns-in_err-value-clause-refused t c =
     let types = c.args.types.now in
     let p = err_from_is_err_and c.from_residual.result c.from_residual.ensures.1 in
     rw (p.1, p.2)
-    (place_refused types c.args.kind c.loop-place.at c.in-Some.place c.value_of.result c.push_place.new.scope c.in_err-value.field-0.0 c.requires.values (sym c.in-Some.ensures.place) c.value_of.ensures c.in_err-value.ensures.refused)
+    (place_refused types c.args.kind c.loop-place.at c.in-Some.place c.value_of.result c.args.scope.now c.loop-place.scope c.push_place.new.scope c.in_err-value.field-0.0
+    (record { scope = λ h. let a = c.loop-place.invariant.written h.0 h.1 h.2 h.3 in (h.0, h.1, a.after, a.goes.stands); known = c.loop-place.invariant.known }) c.requires.values (sym c.in-Some.ensures.place) c.value_of.ensures c.in_err-value.ensures.refused)
 
 pub define_entry-returns-clause-entry : goal.define_entry-returns-clause-entry
 define_entry-returns-clause-entry t c w outer i h = let a = c.in_ok-places.ensures.writes w outer i h in c.in_ok-define.ensures.entry c.args.types.now w outer a.after a.goes.stands
+
+pub push_defined-returns-in_err-index-clause-refused : goal.push_defined-returns-in_err-index-clause-refused
+push_defined-returns-in_err-index-clause-refused t c =
+    let types = c.args.types.now in
+    let p = err_from_is_err_and c.from_residual-in_err-index.result c.from_residual-in_err-index.ensures.1 in
+    let s = c.args.scope.now in
+    let mid = c.known_index.new.scope in
+    let later = later_same_list types s mid c.known_index.ensures.keeps c.known_index.ensures.known in
+    let unknown = subst (FindsAll types s c.args.id) c.in_default.is c.in_ok-known.ensures.none in
+    rw (p.1, p.2) (parts_refused types (ItemKind.Value (ValueType.Defined c.args.id)) s mid c.define_entry.new.scope c.in_err-index.field-0.0 later (λ no_alias there. unknown there) c.in_err-index.ensures.refused)
+
+pub push_defined-returns-clause-known : goal.push_defined-returns-clause-known
+push_defined-returns-clause-known t c k m =
+    known_pushed c.define_entry.new.scope.known.all.items c.remember.new.self.known.all.items _ c.in_ok-remember.ensures.all k (c.in_ok-index.ensures.known k (known_same_list c.args.scope.now.known.all.items c.known_index.new.scope.known.all.items (ap (λ v. v.items) c.known_index.ensures.known) k m))
+
+pub push_defined-returns-in-Some-clause-known : goal.push_defined-returns-in-Some-clause-known
+push_defined-returns-in-Some-clause-known t c = known_same_list c.args.scope.now.known.all.items c.known_index.new.scope.known.all.items (ap (λ v. v.items) c.known_index.ensures.known)
+
+pub define_entry-returns-clause-known : goal.define_entry-returns-clause-known
+define_entry-returns-clause-known t c k m =
+    known_same_list c.push_places.new.scope.known.all.items c.define.new.self.known.all.items (ap (λ ks. ks.all.items) c.in_ok-define.ensures.known) k (c.in_ok-places.ensures.known k m)

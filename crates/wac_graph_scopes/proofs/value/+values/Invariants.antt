@@ -5,6 +5,7 @@ use Rattle.wac_types_base.specs.Collection.{size_of, slots_of}
 use Rattle.wac_types_fit.specs.Checking.{place_trees}
 use Rattle.wac_types_fit.proofs.ValueTrees.{place_size}
 use Rattle.wac_graph_bytes.specs.Typing.{Worlds, Scope, Inside}
+use Rattle.wac_graph_scopes.specs.Known.{KeepsKnown}
 use Rattle.wac_graph_scopes.specs.Scopes.{IsScope, AnswersPlaces}
 use Rattle.wac_graph_scopes.proofs.value.+values.Given as goal
 
@@ -30,6 +31,7 @@ decreases-push_place l = 8 * place_size l.types.now l.place + 5
 abbrev pub invariant-push_places-loop-place : goal.invariant-push_places-loop-place
 invariant-push_places-loop-place l = record {
   resources : l.scope.resources ≡ l.fn.scope.resources;
+  known : KeepsKnown l.fn.scope.known.all.items l.scope.known.all.items;
   written : (w : Worlds) (outer : List Scope) (i : Inside) → IsScope w l.types outer i l.fn.scope → AnswersPlaces w l.types outer i (take l.at (place_trees l.types l.kind)) l.scope l.written.items;
 }
 

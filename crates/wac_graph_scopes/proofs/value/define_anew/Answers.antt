@@ -11,7 +11,7 @@ pub returns-clause-writes : goal.returns-clause-writes
 returns-clause-writes c w outer i h =
     let types = c.args.types.now in
     type_remembered w types outer i (tree_in types (ItemKind.Value (ValueType.Defined c.args.id))) c.define_entry.new.scope c.remember.new.self c.in_ok-index.index
-    (c.in_ok-index.ensures.writes w outer i c.requires.no_alias h) (λ j hs e. c.in_ok-remember.ensures.known w types outer j hs e)
+    (c.in_ok-index.ensures.writes w outer i c.requires.no_alias h) (λ j hs e. c.in_ok-remember.ensures.known w types outer j hs (record { reads = e }) (λ is. absurd (cc is)))
 
 pub returns-clause-entry : goal.returns-clause-entry
 returns-clause-entry c w outer i h =

@@ -4,7 +4,7 @@ use Rattle.wac_types_base.specs.declared.item.ItemKind.{ItemKind}
 use Rattle.wac_types_fit.specs.Trees.{tree_in}
 use Rattle.wac_types_fit.proofs.Unfolded.{same_tree, end_no_alias}
 use Rattle.wac_graph_scopes.proofs.UsedLaws.{type_of_tree}
-use Rattle.wac_graph_scopes.proofs.RefusedLaws.{if_err_map, alias_refused}
+use Rattle.wac_graph_scopes.proofs.RefusedLaws.{if_err_map, alias_refused_apart}
 use Rattle.wac_graph_scopes.proofs.value.define_apart.Goals as goal
 
 pub define_plain-requires-clause-no_alias : goal.define_plain-requires-clause-no_alias
@@ -19,4 +19,4 @@ returns-clause-writes c w outer i h =
 
 pub returns-clause-refused : goal.returns-clause-refused
 returns-clause-refused c stands =
-    if_err_map c.define_plain.result (λ e h. alias_refused c.args.types.now c.see_acyclic.ensures c.args.ty c.resolve_value_type-end.result c.resolve_value_type-end.ensures.resolved stands c.define_plain.new.scope e h) c.define_plain.ensures.refused
+    if_err_map c.define_plain.result (λ e h. alias_refused_apart c.args.types.now c.args.ty c.resolve_value_type-end.result c.resolve_value_type-end.ensures.resolved c.args.scope.now c.define_plain.new.scope e h) c.define_plain.ensures.refused

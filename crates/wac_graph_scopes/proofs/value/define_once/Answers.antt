@@ -4,7 +4,8 @@ use Rattle.std.proofs.lemmas.Result.{IfOk-weaker}
 use Rattle.wac_types_base.specs.declared.item.ItemKind.{ItemKind}
 use Rattle.wac_types_base.specs.declared.item.ValueType.{ValueType}
 use Rattle.wac_types_fit.specs.Trees.{tree_in}
-use Rattle.wac_graph_scopes.specs.Scopes.{StandsFor}
+use Rattle.wac_graph_scopes.specs.Scopes.{StandsFor, FindsAll}
+use Rattle.wac_graph_scopes.proofs.RefusedLaws.{if_err_map, parts_refused, later_same_list}
 use Rattle.wac_graph_scopes.proofs.UsedLaws.{type_there, type_answered}
 use Rattle.wac_graph_scopes.proofs.value.define_once.Goals as goal
 
@@ -19,3 +20,13 @@ returns-in-None-clause-writes c w outer i h =
     let types = c.args.types.now in
     IfOk-weaker c.define_entry.result _ _ (λ k a. type_answered w types outer i (tree_in types (ItemKind.Value (ValueType.Defined c.args.id))) c.define_entry.new.scope k a)
     (c.define_entry.ensures.writes w outer i c.requires.no_alias (c.known_index.ensures.keeps w outer i h))
+
+pub returns-in-None-clause-refused : goal.returns-in-None-clause-refused
+returns-in-None-clause-refused c =
+    let types = c.args.types.now in
+    let id = c.args.id in
+    let s = c.args.scope.now in
+    let mid = c.known_index.new.scope in
+    let unknown = subst (FindsAll types s id) c.in-None.is c.in_ok-index.ensures.none in
+    if_err_map c.define_entry.result
+    (λ e h. parts_refused types (ItemKind.Value (ValueType.Defined id)) s mid c.define_entry.new.scope e (later_same_list types s mid c.known_index.ensures.keeps c.known_index.ensures.known) (λ no_alias there. unknown there) h) c.define_entry.ensures.refused

@@ -5,7 +5,7 @@ use Rattle.wac_types_base.specs.declared.item.ValueType.{ValueType}
 use Rattle.wac_types_fit.specs.Trees.{tree_in}
 use Rattle.wac_types_fit.proofs.Unfolded.{same_tree, end_no_alias}
 use Rattle.wac_graph_scopes.proofs.UsedLaws.{type_of_tree}
-use Rattle.wac_graph_scopes.proofs.RefusedLaws.{if_err_map, alias_refused}
+use Rattle.wac_graph_scopes.proofs.RefusedLaws.{if_err_map, alias_refused, plain_refused}
 use Rattle.wac_graph_scopes.proofs.value.define_value.Goals as goal
 
 pub define_once-requires-clause-no_alias : goal.define_once-requires-clause-no_alias
@@ -29,8 +29,8 @@ returns-in_default-clause-writes c w outer i h =
 
 pub returns-in-Defined-clause-refused : goal.returns-in-Defined-clause-refused
 returns-in-Defined-clause-refused c stands =
-    if_err_map c.define_once.result (λ e h. alias_refused c.args.types.now c.see_acyclic.ensures c.args.ty (ValueType.Defined c.in-Defined.id) c.in-Defined.ensures.resolved stands c.define_once.new.scope e h) c.define_once.ensures.refused
+    if_err_map c.define_once.result (λ e h. alias_refused c.args.types.now c.see_acyclic.ensures c.args.ty (ValueType.Defined c.in-Defined.id) c.in-Defined.ensures.resolved stands c.args.scope.now c.define_once.new.scope e h) c.define_once.ensures.refused
 
 pub returns-in_default-clause-refused : goal.returns-in_default-clause-refused
 returns-in_default-clause-refused c stands =
-    if_err_map c.define_plain.result (λ e h. alias_refused c.args.types.now c.see_acyclic.ensures c.args.ty c.resolve_value_type.result c.resolve_value_type.ensures.resolved stands c.define_plain.new.scope e h) c.define_plain.ensures.refused
+    if_err_map c.define_plain.result (λ e h. alias_refused c.args.types.now c.see_acyclic.ensures c.args.ty c.resolve_value_type.result c.resolve_value_type.ensures.resolved stands c.args.scope.now c.define_plain.new.scope e (plain_refused c.args.types.now c.resolve_value_type.result c.args.scope.now c.define_plain.new.scope e c.in_default.not-Defined h)) c.define_plain.ensures.refused

@@ -11,4 +11,4 @@ returns-in-Defined c w outer i h e =
     let a = c.see_acyclic.ensures in
     let r = c.in-Defined.ensures in
     let same = same_tree types a (ItemKind.Value (ValueType.Defined c.in-Defined.id)) (ItemKind.Value c.args.ty) r.stands (c.if-not-has.ensures.0 refl) r.tree in
-    c.note_defined.ensures w outer i h (stands_for w types a (i.here ∷ outer) c.in-Defined.id c.args.ty c.args.index r.stands (end_no_alias types a r.resolved) same e)
+    c.note_defined.ensures.remembers w outer i h (stands_for w types a (i.here ∷ outer) c.in-Defined.id c.args.ty c.args.index r.stands (end_no_alias types a r.resolved) same e)

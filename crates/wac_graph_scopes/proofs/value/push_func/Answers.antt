@@ -1,6 +1,9 @@
 use Rattle.std.proofs.Common.{ap, ◌∙◌}
 use Rattle.wac_types_fit.proofs.ValueTrees.{func_holds}
 use Rattle.wac_graph_scopes.specs.Forms.{func_entry_of}
+use Rattle.std.proofs.lemmas.Result.{err_from_is_err_and}
+use Rattle.wac_types_base.specs.declared.item.ItemKind.{ItemKind}
+use Rattle.wac_graph_scopes.proofs.RefusedLaws.{parts_refused, later_same}
 use Rattle.wac_graph_scopes.proofs.ValueLaws.{func_written}
 use Rattle.wac_graph_scopes.proofs.value.push_func.Goals as goal
 
@@ -16,3 +19,10 @@ returns-clause-writes c w outer i h =
 
 pub returns-clause-entry : goal.returns-clause-entry
 returns-clause-entry c w outer i h = let a = c.in_ok-places.ensures.writes w outer i h in c.in_ok-index.ensures.entry c.args.types.now w outer a.after a.goes.stands
+
+pub returns-in_err-places-clause-refused : goal.returns-in_err-places-clause-refused
+returns-in_err-places-clause-refused c =
+    let types = c.args.types.now in
+    let p = err_from_is_err_and c.from_residual.result c.from_residual.ensures.1 in
+    let s = c.args.scope.now in
+    rw (p.1, p.2) (parts_refused types (ItemKind.Func c.args.id) s s c.push_places.new.scope c.in_err-places.field-0.0 (later_same types s) tt c.in_err-places.ensures.refused)

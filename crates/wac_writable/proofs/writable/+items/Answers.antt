@@ -11,7 +11,7 @@ use Rattle.wac_writable.specs.Holders.{Keeps}
 use Rattle.wac_writable.specs.Items.{item_unwritable}
 use Rattle.wac_writable.specs.Tests.{used_of, ungiven_unwritable, tested_unwritable, exports_unwritable, some_ungiven, some_unwritable}
 use Rattle.wac_writable.specs.Uses.{AddedFails, NeededBy, FailsAt, SomeUse, SomeItem}
-use Rattle.wac_writable.specs.Givers.{instance_of, imports_by, NeedsFailing, WorldNeeds}
+use Rattle.wac_writable.specs.Givers.{instance_of, givers_by, NeedsFailing, WorldNeeds}
 use Rattle.wac_writable.proofs.PartsStated.{uses_are, exports_are, identifier_is, world_uses_are, imports_are, world_exports_are}
 use Rattle.wac_writable.proofs.UnnamedLaws.{no_gap}
 use Rattle.wac_writable.proofs.HolderLaws.{filled_holds}
@@ -98,13 +98,13 @@ types_fail-returns t c ka k =
 
 pub use_itself_fails-returns-in_default : goal.use_itself_fails-returns-in_default
 use_itself_fails-returns-in_default t c ka k = (
-  tells_no (unnamed_passes c.args.test c.args.used (imports_by c.args.test.types.now c.args.giver.now.world) (identifier_is c.args.test.types.now c.see_acyclic.ensures c.args.used.interface ∙ sym c.in_default.ensures)),
+  tells_no (unnamed_passes c.args.test c.args.used (givers_by c.args.test.types.now c.args.giver.now.given_by) (identifier_is c.args.test.types.now c.see_acyclic.ensures c.args.used.interface ∙ sym c.in_default.ensures)),
   λ e. goes_nowhere c.args.test 0 c.args.giver.now k,
 )
 
 pub use_itself_fails-returns-then-branch : goal.use_itself_fails-returns-then-branch
 use_itself_fails-returns-then-branch t c ka k = (
-  tells_no (imported_passes c.args.test c.args.used (imports_by c.args.test.types.now c.args.giver.now.world) c.in-Some.name.now
+  tells_no (imported_passes c.args.test c.args.used (givers_by c.args.test.types.now c.args.giver.now.given_by) c.in-Some.name.now
       (identifier_is c.args.test.types.now c.see_acyclic.ensures c.args.used.interface ∙ sym c.in-Some.ensures) (c.in_ok-gives.ensures.0 c.if-branch.true)),
   λ e. goes_nowhere c.args.test 0 c.args.giver.now k,
 )
@@ -113,7 +113,7 @@ pub use_itself_fails-returns : goal.use_itself_fails-returns
 use_itself_fails-returns t c =
     IfOk-weaker c.types_fail.result _ _ (λ b f ka k.
     let x = f ka k in (
-      by_types c.args.test c.args.used (imports_by c.args.test.types.now c.args.giver.now.world) c.in-Some.name.now b
+      by_types c.args.test c.args.used (givers_by c.args.test.types.now c.args.giver.now.given_by) c.in-Some.name.now b
           (identifier_is c.args.test.types.now c.see_acyclic.ensures c.args.used.interface ∙ sym c.in-Some.ensures) (not_from_Decides _ c.in_ok-gives.ensures c.if-branch.false) x.0,
       x.1,
     )) c.types_fail.ensures
@@ -137,8 +137,8 @@ use_fails-returns-then-is_new t c =
     let x = c.in_ok-use_itself_fails.ensures ka (knows_after T _ 0 c.args.giver.now c.args.giver.now (omega arith) k (goes_nowhere T _ c.args.giver.now k)) in
     let g = x.1 c.if-branch.false in
     let y = f ka (knows_new T u c.args.giver.now m k g d refl refl c.in_ok-is_new.ensures.keys) in
-    let z = subst (λ w. Decides b (NeedsFailing T w u.interface)) g.world y.0 in (
-      needed_decides T.is_outer (imports_by T.types.now c.args.giver.now.world) (used_of T.types.now u) b (not_from_Decides _ x.0 c.if-branch.false) z,
+    let z = subst (λ w. Decides b (NeedsFailing T w u.interface)) g.given_by y.0 in (
+      needed_decides T.is_outer (givers_by T.types.now c.args.giver.now.given_by) (used_of T.types.now u) b (not_from_Decides _ x.0 c.if-branch.false) z,
       λ e. goes_new T u c.args.giver.now m k g d refl refl c.in_ok-is_new.ensures.keys c.uses_fail.new.giver (y.1 e) (not_from_Decides b z e),
     )) c.uses_fail.ensures
 
@@ -150,7 +150,7 @@ use_fails-returns-else-is_new t c ka k =
     let x = c.in_ok-use_itself_fails.ensures ka (knows_after T _ 0 c.args.giver.now c.args.giver.now (omega arith) k (goes_nowhere T _ c.args.giver.now k)) in
     let g = x.1 c.if-branch.false in
     let there = was_there u.interface m.seen.keys c.in_ok-is_new.is_new c.in_ok-is_new.ensures.added c.if-is_new.false in (
-      needed_decides T.is_outer (imports_by T.types.now c.args.giver.now.world) (used_of T.types.now u) false (not_from_Decides _ x.0 c.if-branch.false) (tells_no (seen_before T u c.args.giver.now m k g there)),
+      needed_decides T.is_outer (givers_by T.types.now c.args.giver.now.given_by) (used_of T.types.now u) false (not_from_Decides _ x.0 c.if-branch.false) (tells_no (seen_before T u c.args.giver.now m k g there)),
       λ e. goes_seen T u c.args.giver.now m k g (record m { seen = c.insert.new.self }) refl refl c.in_ok-is_new.ensures.keys there,
     )
 
@@ -397,7 +397,7 @@ pub uses_of_world_fail-returns : goal.uses_of_world_fail-returns
 uses_of_world_fail-returns t c =
     let T = c.args.test in
     IfOk-weaker c.all_uses_fail.result _ _ (λ b f ka.
-    subst (λ w. Decides b (WorldNeeds T.is_outer (imports_by T.types.now w) (stated_world T.types.now c.args.id))) c.new-giver.ensures.world
+    subst (λ w. Decides b (WorldNeeds T.is_outer (givers_by T.types.now w) (stated_world T.types.now c.args.id))) c.new-giver.ensures.given_by
     (f ka (knows_none T _ c.new-giver.result c.new-giver.ensures.seen c.new-giver.ensures.fine)).0) c.all_uses_fail.ensures
 
 -- ---- all items of a world

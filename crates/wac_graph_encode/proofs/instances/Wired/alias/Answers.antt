@@ -7,7 +7,7 @@ use Rattle.wac_graph_encode.proofs.instances.Wired.alias.Goals as goal
 
 pub returns-clause-writes : goal.returns-clause-writes
 returns-clause-writes c define worlds asked h new =
-    alias_wired c.args.self.now c.see_sound.ensures (subst IsAcyclic c.types.ensures c.see_acyclic.ensures) c.add_alias.new.self c.args.node c.in_ok-place.place c.in-Some.sort c.in-Some.index c.in-Some.name.now c.in-Some.ensures c.in_ok-place.ensures
+    alias_wired c.args.self.now c.see_sound.ensures (subst IsAcyclic c.types.ensures c.see_acyclic.ensures) c.add_alias.new.self c.args.node c.in_ok-place.place c.alias_of-sort.result.0 c.alias_of-sort.result.1 c.alias_of-sort.result.2.now c.alias_of-sort.ensures c.in_ok-place.ensures
     define worlds asked h
 
 pub returns-clause-same : goal.returns-clause-same
@@ -15,5 +15,5 @@ returns-clause-same c = record {
   graph = refl;
   outers = refl;
   packages = c.in_ok-place.ensures.packages;
-  nested = entry_nests_none c.args.self.now.root.entries.items c.add_alias.new.self.entries.items (Aliased (ExportAlias c.in-Some.sort c.in-Some.index c.in-Some.name.now)) refl c.in_ok-place.ensures.entry;
+  nested = entry_nests_none c.args.self.now.root.entries.items c.add_alias.new.self.entries.items (Aliased (ExportAlias c.alias_of-sort.result.0 c.alias_of-sort.result.1 c.alias_of-sort.result.2.now)) refl c.in_ok-place.ensures.entry;
 }

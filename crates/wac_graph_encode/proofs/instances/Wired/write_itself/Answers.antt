@@ -1,4 +1,3 @@
-use Rattle.std.specs.Prelude.{Option, IfSome}
 use Rattle.std.proofs.Common.{◌≡◌, ◌++◌, ◌∙◌, ℕ, List, [], ◌∷◌, ap, sym, subst}
 use Rattle.indexmap.specs.IndexMap.{insert_entry}
 use Rattle.wac_types_base.specs.Entries.{names_of}
@@ -11,30 +10,30 @@ use Rattle.wac_graph_encode.proofs.Entries.{same_node, inserted_new}
 use Rattle.wac_graph_encode.proofs.StandingSteps.{named_end, named_split}
 use Rattle.wac_graph_encode.proofs.instances.Wired.write_itself.Goals as goal
 
-added : (c : goal.In_ok-insert-in-Some) → c.insert.new.self.entries ≡ noted c.args.self.now ++ (c.args.node, c.in-Some.place) ∷ []
+added : (c : goal.In_ok-insert) → c.insert.new.self.entries ≡ noted c.args.self.now ++ (c.args.node, c.in_ok-place.place) ∷ []
 added c =
-    c.in_ok-insert-in-Some.ensures.entries
-    ∙ ap (λ m. insert_entry node.eq-value.it m.entries c.args.node c.in-Some.place) c.in_ok-place.ensures.nodes
-    ∙ inserted_new node.eq-value.it same_node (noted c.args.self.now) c.args.node c.in-Some.place c.requires.new
+    c.in_ok-insert.ensures.entries
+    ∙ ap (λ m. insert_entry node.eq-value.it m.entries c.args.node c.in_ok-place.place) c.in_ok-place.ensures.nodes
+    ∙ inserted_new node.eq-value.it same_node (noted c.args.self.now) c.args.node c.in_ok-place.place c.requires.new
 
-pub returns-in_ok-insert-in-Some-clause-writes : goal.returns-in_ok-insert-in-Some-clause-writes
-returns-in_ok-insert-in-Some-clause-writes c define worlds asked h =
+pub returns-clause-writes : goal.returns-clause-writes
+returns-clause-writes c define worlds asked h =
     let old = c.args.self.now in
     let mid = c.written.new.self in
-    let with_node = subst (λ (o : Option SortIndex). IfSome o (λ p. WrittenWith define worlds asked mid (noted old ++ (c.args.node, p) ∷ []))) c.in-Some.is (c.in_ok-place.ensures.writes define worlds asked h c.requires.new) in
+    let with_node = c.in_ok-place.ensures.writes define worlds asked h c.requires.new in
     subst (λ (xs : List (ℕ × SortIndex)). WrittenWith define worlds asked mid xs) (sym (added c)) with_node
 
-pub returns-in_ok-insert-in-Some-clause-keeps : goal.returns-in_ok-insert-in-Some-clause-keeps
-returns-in_ok-insert-in-Some-clause-keeps c =
+pub returns-clause-keeps : goal.returns-clause-keeps
+returns-clause-keeps c =
     let same = c.in_ok-place.ensures.same in
     record {
       same = record { graph = same.graph; outers = same.outers; packages = same.packages; nested = same.nested };
-      kept = λ k p m. subst (λ (xs : List (ℕ × SortIndex)). Among {R = ℕ × SortIndex} (k, p) xs) (sym (added c)) (Among-front (noted c.args.self.now) (c.args.node, c.in-Some.place) (k, p) m);
+      kept = λ k p m. subst (λ (xs : List (ℕ × SortIndex)). Among {R = ℕ × SortIndex} (k, p) xs) (sym (added c)) (Among-front (noted c.args.self.now) (c.args.node, c.in_ok-place.place) (k, p) m);
     }
 
-pub returns-in_ok-insert-in-Some-clause-only : goal.returns-in_ok-insert-in-Some-clause-only
-returns-in_ok-insert-in-Some-clause-only c rank is k m =
-    named_split (noted c.args.self.now) (c.args.node, c.in-Some.place) k (subst (λ (xs : List (ℕ × SortIndex)). Among k (names_of xs)) (added c) m)
+pub returns-clause-only : goal.returns-clause-only
+returns-clause-only c rank is k m =
+    named_split (noted c.args.self.now) (c.args.node, c.in_ok-place.place) k (subst (λ (xs : List (ℕ × SortIndex)). Among k (names_of xs)) (added c) m)
 
-pub returns-in_ok-insert-in-Some-clause-stands : goal.returns-in_ok-insert-in-Some-clause-stands
-returns-in_ok-insert-in-Some-clause-stands c = subst (λ (xs : List (ℕ × SortIndex)). Among c.args.node (names_of xs)) (sym (added c)) (named_end (noted c.args.self.now) (c.args.node, c.in-Some.place))
+pub returns-clause-stands : goal.returns-clause-stands
+returns-clause-stands c = subst (λ (xs : List (ℕ × SortIndex)). Among c.args.node (names_of xs)) (sym (added c)) (named_end (noted c.args.self.now) (c.args.node, c.in_ok-place.place))

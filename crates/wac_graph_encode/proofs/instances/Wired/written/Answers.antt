@@ -1,8 +1,22 @@
 use Rattle.std.specs.Option.{option_copied}
-use Rattle.std.proofs.Common.{ap, sym, ◌∙◌}
+use Rattle.std.proofs.Common.{Some, ap, sym, ◌∙◌}
+use Rattle.wac_graph_encode.proofs.Readying.{alias_there, passed_there}
 use Rattle.wac_graph_encode.proofs.WritingSteps.{import_wired}
 use Rattle.wac_graph_encode.proofs.instances.Wired.written.Goals as goal
 
+pub place_under-requires : goal.place_under-requires
+place_under-requires c = c.requires.ready.imports c.args.node c.in-Some.name.now (sym c.import_name.ensures ∙ ap option_copied c.in-Some.is)
+
 pub returns-in-Some-clause-writes : goal.returns-in-Some-clause-writes
 returns-in-Some-clause-writes c define worlds asked h new =
-    import_wired c.args.self.now c.see_sound.ensures c.args.node c.in-Some.name.now (sym c.import_name.ensures ∙ ap option_copied c.in-Some.is) c.copied.result (c.copied.ensures ∙ c.get.ensures) define worlds asked h
+    import_wired c.args.self.now c.see_sound.ensures c.args.node c.in-Some.name.now (sym c.import_name.ensures ∙ ap option_copied c.in-Some.is) (Some c.place_under.result) (sym c.place_under.ensures) define worlds asked h
+
+pub instance-requires-clause-held : goal.instance-requires-clause-held
+instance-requires-clause-held c = c.requires.ready.packages c.args.node c.in-Some-package_of.id (sym c.package_of.ensures ∙ c.in-Some-package_of.is)
+
+pub instance-requires-clause-passed : goal.instance-requires-clause-passed
+instance-requires-clause-passed c = passed_there c.args.self.now c.see_sound.ensures c.args.node c.in-Some-package_of.id c.args.bound.now (sym c.package_of.ensures ∙ c.in-Some-package_of.is) c.requires.bound c.requires.ready c.requires.needed
+
+pub alias-requires : goal.alias-requires
+alias-requires c =
+    alias_there c.args.self.now c.see_sound.ensures c.args.node c.requires.there c.requires.ready c.requires.needed (sym c.import_name.ensures ∙ ap option_copied c.in_default.is) (sym c.package_of.ensures ∙ c.in-None.is) c.requires.new

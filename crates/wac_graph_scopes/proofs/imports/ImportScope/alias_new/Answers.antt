@@ -1,15 +1,21 @@
 use Rattle.std.proofs.Common.{◌∷◌, subst}
-use Rattle.std.specs.Prelude.{IfSome}
+use Rattle.std.specs.Prelude.{IfSome, IfNone}
 use Rattle.wac_types_fit.specs.Trees.{tree_in}
-use Rattle.wac_graph_scopes.specs.Imports.{IsSource}
+use Rattle.wac_graph_scopes.specs.Items.{Never}
+use Rattle.wac_graph_scopes.specs.Imports.{IsSource, IsImportedAs}
 use Rattle.wac_graph_scopes.proofs.imports.ImportScope.alias_new.Goals as goal
 
-pub returns-in_ok-index-in-Some : goal.returns-in_ok-index-in-Some
-returns-in_ok-index-in-Some c stands used w outer i imported exported h =
+pub returns-in_ok-index-in-Some-clause-aliases : goal.returns-in_ok-index-in-Some-clause-aliases
+returns-in_ok-index-in-Some-clause-aliases c stands used w outer i imported exported h =
     let types = c.args.all.types.now in
     let ss = h.goes.writing.inside.here ∷ outer in
-    let src = subst (λ o. IfSome o (IsSource w ss c.args.name.name.now (tree_in types c.args.item))) c.in-Some.is (c.in_ok-source.ensures stands used w outer imported exported h.goes) in
-    c.in_ok-index-in-Some.ensures c.args.all.world stands used w outer i imported exported h src
+    let src = subst (λ o. IfSome o (IsSource w ss c.args.name.name.now (tree_in types c.args.item))) c.in-Some.is (c.in_ok-source.ensures.reads stands used w outer imported exported h.goes) in
+    c.in_ok-index-in-Some.ensures.adds c.args.all.world stands used w outer i imported exported h src
 
-pub returns-in-None : goal.returns-in-None
-returns-in-None c stands used w outer i imported exported h = record { goes = h.goes; on = h.on; index = tt }
+pub returns-in-None-clause-aliases : goal.returns-in-None-clause-aliases
+returns-in-None-clause-aliases c stands used w outer i imported exported h = record { goes = h.goes; on = h.on; index = tt }
+
+pub returns-in-None-clause-none : goal.returns-in-None-clause-none
+returns-in-None-clause-none c stands =
+    let imported = IsImportedAs c.args.all c.args.self.now c.args.name.identifier.now c.args.name.name.now c.args.item in
+    subst (λ o. IfNone o (Never imported)) c.in-None.is (c.in_ok-source.ensures.none stands)

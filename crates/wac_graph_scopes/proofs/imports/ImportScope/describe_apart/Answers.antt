@@ -4,6 +4,7 @@ use Rattle.wac_types_base.specs.declared.item.ItemKind.{ItemKind}
 use Rattle.wac_graph_scopes.specs.declared.items.ItemScope.{ItemScope}
 use Rattle.wac_graph_scopes.specs.declared.scope.TypeScope.{TypeScope}
 use Rattle.wac_graph_scopes.specs.Scopes.{IsEntryIn}
+use Rattle.wac_graph_scopes.specs.ItemRefusals.{RefusedTypeApart}
 use Rattle.wac_graph_scopes.proofs.ItemLaws.{item_exchanged}
 use Rattle.wac_graph_scopes.proofs.ImportLaws.{world_apart}
 use Rattle.wac_graph_scopes.proofs.RefusedLaws.{if_err_map, type_refused_kept}
@@ -26,7 +27,11 @@ returns-clause-refused c stands =
     let mid = c.describe_type-description.new.scope in
     let last : ItemScope = record mid { types = c.exchange-2.new.self } in
     let same = c.exchange-2.ensures.scope in
-    if_err_map c.describe_type-description.result (λ e h. type_refused_kept c.args.types.now c.args.ty mid last e (ap (λ (t : TypeScope). t.resources) same) h)
+    let s = c.args.self.now.scope in
+    let begin : ItemScope = record s { types = c.exchange.new.self } in
+    let known = ap (λ (t : TypeScope). let x : ItemScope = record s { types = t } in x) c.exchange.ensures.scope in
+    if_err_map c.describe_type-description.result
+    (λ e h. subst (λ (x : ItemScope). RefusedTypeApart c.args.types.now c.args.ty x last e) known (type_refused_kept c.args.types.now c.args.ty begin mid last e (ap (λ (t : TypeScope). t.resources) same) h))
     (c.describe_type-description.ensures.refused stands)
 
 pub returns-clause-own : goal.returns-clause-own

@@ -12,7 +12,7 @@ returns-in-Some c w outer i imported exported h =
     let types = c.args.all.types.now in
     let item = c.args.item in
     let kind = c.args.import.kind in
-    let a = subst (HasAlias w types outer c.args.all.world i c.alias_of.new.self imported exported (tree_in types item)) c.in-Some.is (c.in_ok-found.ensures c.requires.stands c.requires.kind w outer i imported exported h) in
+    let a = subst (HasAlias w types outer c.args.all.world i c.alias_of.new.self imported exported (tree_in types item)) c.in-Some.is (c.in_ok-found.ensures.aliases c.requires.stands c.requires.kind w outer i imported exported h) in
     let same = used_fits types c.see_acyclic.ensures item kind c.requires.kind c.requires.stands (c.in_ok-fits.ensures.fits c.if-not-fits.false) in
     let there = c.in_ok-fits.ensures.other_stands c.if-not-fits.false in
     record {
@@ -24,5 +24,5 @@ returns-in-Some c w outer i imported exported h =
 
 pub returns-in-None : goal.returns-in-None
 returns-in-None c w outer i imported exported h =
-    let a = c.in_ok-found.ensures c.requires.stands c.requires.kind w outer i imported exported h in
+    let a = c.in_ok-found.ensures.aliases c.requires.stands c.requires.kind w outer i imported exported h in
     record { goes = a.goes; on = a.on }

@@ -22,8 +22,8 @@ put-returns-clause-begun t c d lt =
     let b = c.begin.ensures.begun c.if-not-begin.false in
     c.in_ok-put_needs.ensures.puts.kept c.args.at (subst (λ l. IsBegun l c.args.at) (sym b.2) (begun_here old c.args.at b.0))
 
-pub put_needs-loop-need-preserved : goal.put_needs-loop-need-preserved
-put_needs-loop-need-preserved t c = record {
-  turns = c.in_ok-put.ensures.turns ∙ c.loop-need.invariant.turns;
-  puts = Puts-trans c.args.self.now.begun.items c.loop-need.self.begun.items c.put.new.self.begun.items c.args.self.now.order.items c.loop-need.self.order.items c.put.new.self.order.items c.loop-need.invariant.puts c.in_ok-put.ensures.puts;
+pub put_needs-loop-which-preserved : goal.put_needs-loop-which-preserved
+put_needs-loop-which-preserved t c = record {
+  turns = c.in_ok-put_need.ensures.turns ∙ c.loop-which.invariant.turns;
+  puts = Puts-trans c.args.self.now.begun.items c.loop-which.self.begun.items c.put_need.new.self.begun.items c.args.self.now.order.items c.loop-which.self.order.items c.put_need.new.self.order.items c.loop-which.invariant.puts c.in_ok-put_need.ensures.puts;
 }

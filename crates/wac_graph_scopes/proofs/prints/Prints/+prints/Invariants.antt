@@ -1,17 +1,30 @@
-use Rattle.std.proofs.Common.{◌+◌, ◌-◌, ◌*◌, length}
+use Rattle.std.proofs.Common.{◌≡◌, ◌+◌, ◌-◌, ◌*◌, length, take}
 use Rattle.wac_types_base.specs.declared.item.ItemKind.{ItemKind}
 use Rattle.wac_types_base.specs.declared.item.ValueType.{ValueType}
 use Rattle.wac_types_base.specs.Collection.{size_of, slots_of}
+use Rattle.wac_types_fit.specs.Checking.{place_trees}
+use Rattle.wac_types_fit.proofs.ValueTrees.{place_size}
+use Rattle.wac_graph_scopes.specs.Prints.{places_print, ArePrints}
 use Rattle.wac_graph_scopes.proofs.prints.Prints.+prints.Given as goal
 
 abbrev pub decreases-of : goal.decreases-of
-decreases-of l = 4 * size_of l.types.now (ItemKind.Value l.ty) + 2
+decreases-of l = 8 * size_of l.types.now (ItemKind.Value l.ty) + 3
 
 abbrev pub decreases-of_defined : goal.decreases-of_defined
-decreases-of_defined l = 4 * size_of l.types.now (ItemKind.Value (ValueType.Defined l.id)) + 1
+decreases-of_defined l = 8 * size_of l.types.now (ItemKind.Value (ValueType.Defined l.id)) + 2
+
+abbrev pub decreases-of_new : goal.decreases-of_new
+decreases-of_new l = 8 * size_of l.types.now (ItemKind.Value (ValueType.Defined l.id)) + 1
 
 abbrev pub decreases-of_places : goal.decreases-of_places
-decreases-of_places l = 4 * size_of l.types.now l.kind
+decreases-of_places l = 8 * size_of l.types.now l.kind
+
+abbrev pub decreases-of_place : goal.decreases-of_place
+decreases-of_place l = 8 * place_size l.types.now l.place + 4
+
+-- the number of the places so far
+abbrev pub invariant-of_places-loop-place : goal.invariant-of_places-loop-place
+invariant-of_places-loop-place l = ArePrints l.types l.fn.self → ArePrints l.types l.self × (l.print ≡ places_print l.fn.before (take l.at (place_trees l.types l.kind)))
 
 abbrev pub decreases-of_places-loop-place : goal.decreases-of_places-loop-place
 decreases-of_places-loop-place l = length (slots_of l.types l.kind) - l.at

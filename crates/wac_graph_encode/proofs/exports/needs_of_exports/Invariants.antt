@@ -1,0 +1,5 @@
+use Rattle.std.proofs.Common.{◌≡◌, length}
+use Rattle.wac_graph_encode.proofs.exports.needs_of_exports.Given as goal
+
+abbrev pub invariant-loop-at : goal.invariant-loop-at
+invariant-loop-at l = length l.needs.items ≡ l.at

@@ -1,0 +1,107 @@
+-- What stands before nodes are written: outer imports, packages and definitions, and the nodes that each needs.
+use Rattle.std.specs.Prelude.{◌≡◌, ◌⊎◌, ℕ, true, false, List, [], ◌∷◌, map, Option, Some, None, IsSome, slice_get}
+use Rattle.wac_types_base.specs.declared.ids.WorldId.{WorldId}
+use Rattle.wac_types_base.specs.Record.{Collection}
+use Rattle.wac_types_base.specs.Entries.{Name, names_of, value_at}
+use Rattle.wac_types_base.specs.Graph.{Among}
+use Rattle.wac_types_names.specs.Packaged.{Packaged}
+use Rattle.wac_graph_core.specs.declared.ids.PackageId.{PackageId}
+use Rattle.wac_graph_core.specs.Nodes.{NodeData}
+use Rattle.wac_graph_core.specs.Edges.{HasAlias}
+use Rattle.wac_graph_core.specs.Walking.{first_argument}
+use Rattle.wac_graph_core.specs.Graph.{Graph, ContainsNode, ContainsPackage, instantiated, node_at, package_of}
+use Rattle.wac_graph_scopes.specs.declared.imports.Called.{Called}
+use Rattle.wac_graph_scopes.specs.declared.imports.SortIndex.{SortIndex}
+use Rattle.wac_graph_scopes.specs.Items.{sort_of}
+use Rattle.wac_graph_scopes.specs.Parts.{imports_of}
+use Rattle.wac_graph_asks.specs.Reads.{import_name_of, is_definition, package_id_of}
+use Rattle.wac_graph_causes.specs.Unwritable.{is_value_at}
+use Rattle.wac_graph_encode.specs.declared.root.Root.{Root}
+use Rattle.wac_graph_encode.specs.declared.instances.Wired.{Wired}
+use Rattle.wac_graph_encode.specs.Writing.{IsNeeded, noted}
+
+-- ---- outer imports
+
+abbrev pub called_names : List Called → List Name
+called_names called = map (λ one. one.name) called
+
+-- something stands that is written of the import at the place
+abbrev pub IsPlacedAt : List (Option SortIndex) → ℕ → Type 0
+IsPlacedAt imports at = (p : SortIndex) × (slice_get imports at ≡ Some (Some p))
+
+abbrev pub ArePlacedAt : List (Option SortIndex) → List Called → Type 0
+ArePlacedAt imports called = (one : Called) → Among one called → IsPlacedAt imports one.at
+
+-- the names are kept, with these more
+abbrev pub AddsNames : {N : Type 0} → (names old new : List N) → Type 0
+AddsNames {N = N} names old new = (n : N) → Among n old ⊎ Among n names → Among n new
+
+-- ---- what nodes need
+
+-- Under these names stands what the imports of the graph ask, and what its instances ask that have no argument; these are the
+-- packages of its instances, and among these nodes are its definitions. No alias is a value.
+pub record IsProvided (g : Graph) (names : List Name) (ids : List PackageId) (nodes : List ℕ) : Type 0 where
+  pub imports : (k : ℕ) (n : Name) → import_name_of (node_at g k) ≡ Some n → Among n names
+  pub unbound : (k : ℕ) (of : Packaged) (n : Name) → instantiated g k ≡ Some of → Among n (names_of (imports_of g.types of.ty))
+      → first_argument g.edges k n ≡ None → Among n names
+  pub packages : (k : ℕ) (id : PackageId) → package_id_of (node_at g k) ≡ Some id → Among id ids
+  pub definitions : (k : ℕ) → is_definition (node_at g k) ≡ true → Among k nodes
+  pub values : (i k : ℕ) (n : Name) → HasAlias g.edges i n k → is_value_at g k ≡ false
+
+-- so it is of the root, with these outer imports
+abbrev pub IsReadyWith : Graph → List Name → Root → Type 0
+IsReadyWith g names r = IsProvided g names (names_of r.packages.entries) (names_of r.nodes.entries)
+
+abbrev pub IsReady : Wired → Type 0
+IsReady w = IsReadyWith w.graph.now (names_of w.outers) w.root
+
+-- each node that this one needs stands
+abbrev pub NeededStand : Wired → ℕ → Type 0
+NeededStand w k = (j : ℕ) → IsNeeded w.graph.now j k → Among j (names_of (noted w))
+
+abbrev pub AllStand : Wired → List ℕ → Type 0
+AllStand w ks = (k : ℕ) → Among k ks → Among k (names_of (noted w))
+
+abbrev pub AreThere : Graph → List ℕ → Type 0
+AreThere g ks = (k : ℕ) → Among k ks → ContainsNode g k
+
+-- each node that this one needs is among them
+abbrev pub HasNeeded : Graph → ℕ → List ℕ → Type 0
+HasNeeded g k ks = (j : ℕ) → IsNeeded g j k → Among j ks
+
+-- what it is an alias of is added
+abbrev pub AddsSource : Graph → ℕ → (old new : List ℕ) → Type 0
+AddsSource g k old new = (j : ℕ) → Among j old ⊎ ((n : Name) × HasAlias g.edges j n k) → Among j new
+
+-- ---- arguments
+
+-- under the name stands what is passed: the node that is bound, or else the outer import
+abbrev pub StandsBy : List (Name × SortIndex) → List (ℕ × SortIndex) → Name → Option ℕ → Type 0
+StandsBy found nodes n None = Among n (names_of found)
+StandsBy found nodes n (Some a) = Among a (names_of nodes)
+
+abbrev pub StandsUnder : List (Name × SortIndex) → List (ℕ × SortIndex) → List (Name × ℕ) → Name → Type 0
+StandsUnder found nodes bound n = StandsBy found nodes n (value_at bound n)
+
+-- so it is under the name of each import of the world
+abbrev pub AllStandUnder : Collection → WorldId → List (Name × SortIndex) → List (ℕ × SortIndex) → List (Name × ℕ) → Type 0
+AllStandUnder types world found nodes bound =
+    (n : Name) → Among n (names_of (imports_of types world)) → StandsUnder found nodes bound n
+
+-- the package is there, and all stands that is passed to an instance of it
+pub record CanBePassed (w : Wired) (id : PackageId) (bound : List (Name × ℕ)) : Type 0 where
+  pub there : ContainsPackage w.graph.now id
+  pub stand : (of : Packaged) → package_of w.graph.now id ≡ Some of
+      → AllStandUnder w.graph.now.types of.ty w.outers (noted w) bound
+
+-- ---- aliases
+
+-- the node, where it is one, is of no sort
+abbrev pub IsUnsorted : Graph → ℕ → Type 0
+IsUnsorted g k = (x : NodeData) → node_at g k ≡ Some x → sort_of x.item_kind ≡ None
+
+-- the node is an alias of an export of a node that stands, and has a sort
+pub record CanBeAlias (w : Wired) (k : ℕ) : Type 0 where
+  pub one : (i : ℕ) × (n : Name) × HasAlias w.graph.now.edges i n k
+  pub stand : (i : ℕ) (n : Name) → HasAlias w.graph.now.edges i n k → Among i (names_of (noted w))
+  pub sorted : IsUnsorted w.graph.now k → ⊥

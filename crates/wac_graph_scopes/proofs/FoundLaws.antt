@@ -1,0 +1,89 @@
+-- Places of imports under names: of each name the first is found.
+use Rattle.std.proofs.Common.{◌≡◌, ℕ, suc, ◌+◌, List, [], ◌∷◌, ◌++◌, length, take, Option, Some, None, ◌==◌, Bool, true, false, cond, inl, inr, refl, sym, ap, subst, ◌∙◌, arith, append_assoc, slice_get}
+use Rattle.std.specs.Prelude.{is_some}
+use Rattle.std.specs.Option.{option_or}
+use Rattle.std.specs.Cmp.Lexicographic.{pointwise}
+use Rattle.wac_types_base.specs.declared.ids.InterfaceId.{InterfaceId}
+use Rattle.wac_types_base.specs.declared.item.ItemKind.{ItemKind}
+use Rattle.wac_types_base.specs.Entries.{Name, value_at}
+use Rattle.wac_types_base.specs.Parts.{identifier_in}
+use Rattle.wac_types_base.proofs.Lists.{name_tested}
+use Rattle.wac_types_base.proofs.Looked.{take-one_more}
+use Rattle.std.proofs.lemmas.List.{map_push, length-take-le}
+use Rattle.std.proofs.lemmas.Option.{slice_get_within}
+use Rattle.wac_graph_scopes.specs.declared.imports.Called.{Called}
+use Rattle.wac_graph_scopes.specs.declared.imports.Importing.{Importing}
+use Rattle.wac_graph_scopes.specs.declared.imports.ImportScope.{ImportScope}
+use Rattle.wac_graph_scopes.specs.declared.parts.Use.{Use}
+use Rattle.wac_graph_scopes.specs.Parts.{interface_in}
+use Rattle.wac_graph_scopes.specs.Used.{IsUsedAs}
+use Rattle.wac_graph_scopes.specs.Items.{Never}
+use Rattle.wac_graph_scopes.specs.Imports.{IsInstanceImport, called_places, own_places, FindsFirst, IsImportedAs, IsFoundFor}
+
+value_or : {T : Type 0} (xs ys : List (Name × T)) (n : Name) → value_at (xs ++ ys) n ≡ option_or (value_at xs n) (value_at ys n)
+value_or [] ys n = refl
+value_or (x ∷ xs) ys n = by_test (value_or xs ys n) (pointwise ◌==◌ n x.0)
+  where
+    by_test : value_at (xs ++ ys) n ≡ option_or (value_at xs n) (value_at ys n) → (b : Bool) → cond b (Some x.1) (value_at (xs ++ ys) n) ≡ option_or (cond b (Some x.1) (value_at xs n)) (value_at ys n)
+    by_test h true = refl
+    by_test h false = h
+
+or_any : (o p : Option ℕ) → is_some o ≡ true → o ≡ option_or o p
+or_any (Some x) p e = refl
+or_any None p e = absurd (cc e)
+
+or_none : (o : Option ℕ) → o ≡ option_or o None
+or_none (Some x) = refl
+or_none None = refl
+
+-- one more behind those that are found so
+pub first_next : (new found all more : List (Name × ℕ)) → FindsFirst new (found ++ more) → FindsFirst found all → FindsFirst new (all ++ more)
+first_next new found all more a f n = a n ∙ value_or found more n ∙ ap (λ o. option_or o (value_at more n)) (f n) ∙ sym (value_or all more n)
+
+-- a name that is there is found as it was
+pub first_kept : (xs : List (Name × ℕ)) (n : Name) (at : ℕ) → is_some (value_at xs n) ≡ true → FindsFirst xs (xs ++ (n, at) ∷ [])
+first_kept xs n at there m = elim (name_tested m n) [
+  | inl same ↦ or_any (value_at xs m) (value_at ((n, at) ∷ []) m) (ap (λ (k : Name). is_some (value_at xs k)) same.0 ∙ there) ∙ sym (value_or xs ((n, at) ∷ []) m)
+  | inr other ↦ or_none (value_at xs m) ∙ ap (option_or (value_at xs m)) (sym (ap (λ b. cond b (Some at) None) other.1)) ∙ sym (value_or xs ((n, at) ∷ []) m)
+]
+
+-- the place of one more name
+pub own_next : (from : ℕ) (ns : List Name) (n : Name) → own_places from (ns ++ n ∷ []) ≡ own_places from ns ++ (n, from + length ns) ∷ []
+own_next from [] n = let same : from ≡ from + 0 = omega arith in ap (λ k. (n, k) ∷ []) same
+own_next from (m ∷ ns) n =
+    let same : from + 1 + length ns ≡ from + suc (length ns) = omega arith in
+    ap (λ l. (m, from) ∷ l) (own_next (from + 1) ns n ∙ ap (λ k. own_places (from + 1) ns ++ (n, k) ∷ []) same)
+
+pub own_places_next : (old : List (Name × ℕ)) (ns : List Name) (i : ℕ) (n : Name) → slice_get ns i ≡ Some n → (old ++ own_places 0 (take i ns)) ++ (n, i) ∷ [] ≡ old ++ own_places 0 (take (i + 1) ns)
+own_places_next old ns i n e =
+    let lt = slice_get_within ns i n e in
+    let taken = length-take-le i ns (omega (arith, lt)) in
+    let len : 0 + length (take i ns) ≡ i = omega (arith, taken) in
+    append_assoc old (own_places 0 (take i ns)) ((n, i) ∷ [])
+    ∙ ap (λ l. old ++ l) (ap (λ k. own_places 0 (take i ns) ++ (n, k) ∷ []) (sym len) ∙ sym (own_next 0 (take i ns) n) ∙ ap (own_places 0) (sym (take-one_more ns i n e)))
+
+pub called_next : (old : List (Name × ℕ)) (cs : List Called) (i : ℕ) (c : Called) → slice_get cs i ≡ Some c → (old ++ called_places (take i cs)) ++ (c.name, c.at) ∷ [] ≡ old ++ called_places (take (i + 1) cs)
+called_next old cs i c e =
+    append_assoc old (called_places (take i cs)) ((c.name, c.at) ∷ [])
+    ∙ ap (λ l. old ++ l) (sym (map_push (λ (x : Called). (x.name, x.at)) (take i cs) c) ∙ ap called_places (sym (take-one_more cs i c e)))
+
+-- ---- types that are used
+
+kind_of : {T : Type 0} (x y : Name × T) → Some x ≡ Some y → x.1 ≡ y.1
+kind_of x y e = let same : x ≡ y = cc e in ap (λ p. p.1) same
+
+-- an import is of one interface
+pub same_import : (is : List (Name × ItemKind)) (at : ℕ) (i j : InterfaceId) → IsInstanceImport is at i → IsInstanceImport is at j → i ≡ j
+same_import is at i j g h =
+    let kinds = kind_of (g.0, ItemKind.Instance i) (h.0, ItemKind.Instance j) (sym g.1 ∙ h.1) in
+    cc kinds
+
+-- no type stands under the name, and no import gives it
+pub found_nowhere : (a : Importing) (s : ImportScope) (u : Use) (item : ItemKind) (i : Name) → identifier_in (interface_in a.types.now u.interface) ≡ Some i
+    → Never (IsUsedAs a.types.now s.used i u.there.now item) → Never (IsImportedAs a s i u.there.now item) → Never (IsFoundFor a s u item)
+found_nowhere a s u item i is no_used no_import k h =
+    let this : h.0 ≡ i = cc (h.1, is) in
+    elim h.2 [
+      | inl x ↦ no_used k (subst (λ (m : Name). IsUsedAs a.types.now s.used m u.there.now item k) this x)
+      | inr x ↦ no_import k (subst (λ (m : Name). IsImportedAs a s m u.there.now item k) this x)
+    ]

@@ -1,0 +1,178 @@
+-- The types that are known, and how they are found.
+use Rattle.std.proofs.Common.{◌≡◌, ℕ, ◌+◌, ◌<◌, Bool, true, false, cond, List, [], ◌∷◌, ◌++◌, length, Option, Some, None, inl, inr, refl, sym, ap, ◌∙◌, subst, arith}
+use Rattle.std.specs.Prelude.{slice_get, nat_eq, IfNone, ◌⊎◌, is_some}
+use Rattle.std.proofs.lemmas.Bool.{cases_eq}
+use Rattle.std.specs.Map.{lookup}
+use Rattle.wac_types_base.specs.contracts.ids.DefinedTypeIdPartialEq.TheImpl.{eq-value}
+use Rattle.wac_types_base.specs.declared.ids.DefinedTypeId.{DefinedTypeId}
+use Rattle.wac_types_base.specs.Record.{Collection}
+use Rattle.wac_types_base.specs.Graph.{Among}
+use Rattle.wac_types_base.specs.Tree.{Tree}
+use Rattle.wac_types_base.proofs.Walking.{slice_get-Among}
+use Rattle.wac_types_fit.proofs.Items.{Among-last}
+use Rattle.wac_graph_bytes.specs.Typing.{Worlds, Scope, Inside}
+use Rattle.wac_graph_bytes.proofs.Steps.{get_kept, get_last}
+use Rattle.wac_graph_scopes.specs.declared.scope.KnownType.{KnownType}
+use Rattle.wac_graph_scopes.specs.declared.scope.KnownTypes.{KnownTypes}
+use Rattle.wac_graph_scopes.specs.declared.scope.TypeScope.{TypeScope}
+use Rattle.wac_graph_scopes.specs.Prints.{tree_print, type_print, ArePrints}
+use Rattle.wac_graph_scopes.specs.Known.{type_tree, HasPlace, FindsPrint, HasPrint, ArePlaces, HasId, HasTree, IsFound, DiffersAt, KeepsKnown}
+use Rattle.wac_graph_scopes.specs.Scopes.{IsScope, IsScopeOf, KeepsScope}
+use Rattle.wac_graph_scopes.proofs.PrintLaws.{same_id}
+use Rattle.wac_graph_scopes.proofs.ScopeLaws.{scope_known}
+
+-- ---- going on
+
+pub KeepsKnown-trans : (xs ys zs : List KnownType) → KeepsKnown xs ys → KeepsKnown ys zs → KeepsKnown xs zs
+KeepsKnown-trans xs ys zs a b k m = b k (a k m)
+
+pub known_same_list : (xs ys : List KnownType) → ys ≡ xs → KeepsKnown xs ys
+known_same_list xs ys e k m = subst (Among k) (sym e) m
+
+among_push : {X : Type 0} (xs : List X) (x y : X) → Among x xs → Among x (xs ++ y ∷ [])
+among_push [] x y m = absurd m
+among_push (z ∷ xs) x y (inl e) = inl e
+among_push (z ∷ xs) x y (inr m) = inr (among_push xs x y m)
+
+pub known_pushed : (xs ys : List KnownType) (k : KnownType) → ys ≡ xs ++ k ∷ [] → KeepsKnown xs ys
+known_pushed xs ys k e x m = subst (Among x) (sym e) (among_push xs x k m)
+
+-- what is found stays found
+pub found_on : (c : Collection) (xs ys : List KnownType) (id : DefinedTypeId) → KeepsKnown xs ys → IsFound c xs id → IsFound c ys id
+found_on c xs ys id a (inl h) = inl (h.0, a h.0 h.1, h.2)
+found_on c xs ys id a (inr h) = inr (h.0, a h.0 h.1, h.2, h.3)
+
+-- ---- the places
+
+-- of a type that is remembered
+place_more : (old new : List (DefinedTypeId × ℕ)) (ks : List KnownType) (k : KnownType) (at : ℕ) → at ≡ length ks → ((x : DefinedTypeId) → lookup (eq-value.it x) new ≡ cond (eq-value.it k.id x) (Some at) (lookup (eq-value.it x) old))
+    → (x : KnownType) → Among x ks ⊎ (x ≡ k) → ((y : KnownType) → Among y ks → HasPlace old ks y.id) → HasPlace new (ks ++ k ∷ []) x.id
+place_more old new ks k at end updates x m h = by (eq-value.it k.id x.id) refl m
+  where
+    at_last : k.id ≡ x.id → eq-value.it k.id x.id ≡ true → HasPlace new (ks ++ k ∷ []) x.id
+    at_last same q = record {
+      place = at;
+      there = k;
+      found = updates x.id ∙ ap (λ (b : Bool). cond b (Some at) (lookup (eq-value.it x.id) old)) q;
+      stands = get_last ks k at end;
+      same = same;
+    }
+
+    by : (b : Bool) → eq-value.it k.id x.id ≡ b → Among x ks ⊎ (x ≡ k) → HasPlace new (ks ++ k ∷ []) x.id
+    by true q m = at_last ((same_id k.id x.id).0 q) q
+    by false q (inr e) = absurd (cc (q, (same_id k.id x.id).1 (ap (λ (y : KnownType). y.id) (sym e))))
+    by false q (inl a) =
+        let p = h x a in
+        record {
+          place = p.place;
+          there = p.there;
+          found = updates x.id ∙ ap (λ (b : Bool). cond b (Some at) (lookup (eq-value.it x.id) old)) q ∙ p.found;
+          stands = get_kept ks k p.there p.place p.stands;
+          same = p.same;
+        }
+
+-- one more type that is known
+pub places_remembered : (c : Collection) (s u : KnownTypes) (k : KnownType) (at : ℕ) → at ≡ length s.all.items → ((x : DefinedTypeId) → lookup (eq-value.it x) u.places.by_id.entries ≡ cond (eq-value.it k.id x) (Some at) (lookup (eq-value.it x) s.places.by_id.entries))
+    → u.all.items ≡ s.all.items ++ k ∷ [] → u.places.by_print.entries ≡ s.places.by_print.entries → u.places.prints ≡ s.places.prints
+    → (k.named ≡ true → HasPrint c s.places.by_print.entries k.id) → ArePlaces c s → ArePlaces c u
+places_remembered c s u k at end updates items by_print prints named h = record {
+  ids = λ x m. subst (λ (l : List KnownType). HasPlace u.places.by_id.entries l x.id) (sym items) (place_more s.places.by_id.entries u.places.by_id.entries s.all.items k at end updates x (last x m) h.ids);
+  names = λ x m is. subst (λ (l : List (ℕ × ℕ)). HasPrint c l x.id) (sym by_print) (name x (last x m) is);
+  prints = subst (ArePrints c) (sym prints) h.prints;
+}
+  where
+    last : (x : KnownType) → Among x u.all.items → Among x s.all.items ⊎ (x ≡ k)
+    last x m = Among-last s.all.items k x (subst (λ (l : List KnownType). Among x l) items m)
+
+    name : (x : KnownType) → Among x s.all.items ⊎ (x ≡ k) → x.named ≡ true → HasPrint c s.places.by_print.entries x.id
+    name x (inl a) is = h.names x a is
+    name x (inr e) is = subst (λ (y : KnownType). HasPrint c s.places.by_print.entries y.id) (sym e) (named (ap (λ (y : KnownType). y.named) (sym e) ∙ is))
+
+-- with more numbers
+pub places_printed : (c : Collection) (s u : KnownTypes) → u.all.items ≡ s.all.items → u.places.by_id.entries ≡ s.places.by_id.entries → ((n : ℕ) → FindsPrint s.places.by_print.entries n → FindsPrint u.places.by_print.entries n)
+    → ArePrints c u.places.prints → ArePlaces c s → ArePlaces c u
+places_printed c s u items ids keeps prints h = record {
+  ids = λ x m. subst (λ (l : List KnownType). HasPlace u.places.by_id.entries l x.id) (sym items) (subst (λ (l : List (DefinedTypeId × ℕ)). HasPlace l s.all.items x.id) (sym ids) (h.ids x (subst (λ (l : List KnownType). Among x l) items m)));
+  names = λ x m is. let p = h.names x (subst (λ (l : List KnownType). Among x l) items m) is in (p.0, keeps (type_print c x.id) p.1);
+  prints = prints;
+}
+
+-- a number that is put beside the others
+pub print_found : (old new : List (ℕ × ℕ)) (n at : ℕ) → ((q : ℕ) → lookup (nat_eq q) new ≡ cond (nat_eq n q) (Some at) (lookup (nat_eq q) old)) → (q : ℕ) → FindsPrint old q → FindsPrint new q
+print_found old new n at updates q h = by (nat_eq n q) refl
+  where
+    by : (b : Bool) → nat_eq n q ≡ b → FindsPrint new q
+    by true e = (at, updates q ∙ ap (λ (b : Bool). cond b (Some at) (lookup (nat_eq q) old)) e)
+    by false e = (h.0, updates q ∙ ap (λ (b : Bool). cond b (Some at) (lookup (nat_eq q) old)) e ∙ h.1)
+
+-- ---- what is found
+
+-- by its id
+pub id_found : (c : Collection) (ks : KnownTypes) (id : DefinedTypeId) → ArePlaces c ks → HasId ks.all.items id → HasPlace ks.places.by_id.entries ks.all.items id
+id_found c ks id h f = subst (λ (x : DefinedTypeId). HasPlace ks.places.by_id.entries ks.all.items x) f.2 (h.ids f.0 f.1)
+
+pub no_place : (c : Collection) (ks : KnownTypes) (id : DefinedTypeId) → lookup (eq-value.it id) ks.places.by_id.entries ≡ None → ArePlaces c ks → HasId ks.all.items id → ⊥
+no_place c ks id e h f = let p = id_found c ks id h f in absurd (cc (e, p.found))
+
+pub other_place : (c : Collection) (ks : KnownTypes) (id : DefinedTypeId) (at : ℕ) → lookup (eq-value.it id) ks.places.by_id.entries ≡ Some at → ((k : KnownType) → slice_get ks.all.items at ≡ Some k → k.id ≡ id → ⊥) → ArePlaces c ks → HasId ks.all.items id → ⊥
+other_place c ks id at e none h f =
+    let p = id_found c ks id h f in
+    let same : p.place ≡ at = cc (e, p.found) in
+    none p.there (ap (slice_get ks.all.items) (sym same) ∙ p.stands) p.same
+
+-- by its tree
+pub no_print : (c : Collection) (ks : KnownTypes) (id : DefinedTypeId) → (FindsPrint ks.places.by_print.entries (type_print c id) → ⊥) → ArePlaces c ks → HasTree c ks.all.items (type_tree c id) → ⊥
+no_print c ks id none h f =
+    let p = h.names f.0 f.1 f.2 in
+    none (subst (λ (n : ℕ). FindsPrint ks.places.by_print.entries n) (print_same f.3) p.1)
+  where
+    print_same : type_tree c f.0.id ≡ type_tree c id → type_print c f.0.id ≡ type_print c id
+    print_same e = ap tree_print e
+
+pub no_prints : (es : List (ℕ × ℕ)) (n : ℕ) → length es ≡ 0 → FindsPrint es n → ⊥
+no_prints [] n e h = absurd (cc h.1)
+no_prints (x ∷ es) n e h = absurd (omega (arith, e))
+
+-- each that is known differs
+pub none_has_tree : (c : Collection) (ks : KnownTypes) (t : Tree) → ((n : ℕ) → n < length ks.all.items → DiffersAt c ks.all.items t n) → ArePlaces c ks → HasTree c ks.all.items t → ⊥
+none_has_tree c ks t differs h f =
+    let p = slice_get-Among ks.all.items f.0 f.1 in
+    differs p.0 p.1 f.0 p.2 (h.names f.0 f.1 f.2).0 f.3
+
+-- ---- scopes
+
+-- the same, but for places and numbers
+pub scope_printed : (w : Worlds) (c : Collection) (outer : List Scope) (i : Inside) (s : TypeScope) (ks : KnownTypes) → ks.all.items ≡ s.known.all.items → ArePlaces c ks → IsScope w c outer i s → IsScope w c outer i (record s { known = ks })
+scope_printed w c outer i s ks items places h =
+    scope_known w c outer i s ks h (record { each = λ k m. h.known.each k (subst (λ (l : List KnownType). Among k l) items m); places = places })
+
+pub scope_of_on : (c : Collection) (s u : TypeScope) → KeepsScope c s u → IsScopeOf c s → IsScopeOf c u
+scope_of_on c s u keeps h = (h.0, h.1, h.2, keeps h.0 h.1 h.2 h.3)
+
+-- ---- one after another
+
+pub if_none_from : {X : Type 0} (o : Option X) (P : Type 0) → (o ≡ None → P) → IfNone o P
+if_none_from None P f = f refl
+if_none_from (Some x) P f = tt
+
+pub if_none_some : {X : Type 0} (o : Option X) (P : Type 0) → is_some o ≡ true → IfNone o P
+if_none_some None P e = absurd (cc e)
+if_none_some (Some x) P e = tt
+
+-- one more that differs
+pub differ_next : {X : Type 0} (c : Collection) (ks : List KnownType) (t : Tree) (at : ℕ) (o : Option X) → is_some o ≡ false → ((n : ℕ) → n < at → DiffersAt c ks t n) → IfNone o (DiffersAt c ks t at) → (n : ℕ) → n < at + 1 → DiffersAt c ks t n
+differ_next c ks t at (Some x) e before now n lt = absurd (cc e)
+differ_next c ks t at None e before now n lt = elim (cases_eq n at) [ inl same ↦ subst (DiffersAt c ks t) (sym same) now | inr other ↦ before n (omega (arith, lt, other)) ]
+
+-- known neither by its id nor by its tree
+pub found_none : {X : Type 0} (c : Collection) (ks : KnownTypes) (id : DefinedTypeId) (o : Option X) → (HasId ks.all.items id → ⊥) → IfNone o (HasTree c ks.all.items (type_tree c id) → ⊥) → IfNone o (IsFound c ks.all.items id → ⊥)
+found_none c ks id (Some x) f g = tt
+found_none c ks id None f g = none
+  where
+    none : IsFound c ks.all.items id → ⊥
+    none (inl h) = f h
+    none (inr h) = g h
+
+pub if_none_map : {X : Type 0} (o : Option X) (P Q : Type 0) → (P → Q) → IfNone o P → IfNone o Q
+if_none_map None P Q f h = f h
+if_none_map (Some x) P Q f h = tt

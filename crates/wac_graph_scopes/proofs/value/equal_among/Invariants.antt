@@ -1,0 +1,7 @@
+use Rattle.std.proofs.Common.{◌<◌, ℕ}
+use Rattle.wac_graph_scopes.specs.Known.{type_tree, DiffersAt}
+use Rattle.wac_graph_scopes.proofs.value.equal_among.Given as goal
+
+-- each that is known so far differs
+abbrev pub invariant-loop-at : goal.invariant-loop-at
+invariant-loop-at l = (n : ℕ) → n < l.at → DiffersAt l.types l.scope.known.all.items (type_tree l.types l.id) n
