@@ -36,6 +36,10 @@ ArePlacedAt imports called = (one : Called) → Among one called → IsPlacedAt 
 abbrev pub AddsNames : {N : Type 0} → (names old new : List N) → Type 0
 AddsNames {N = N} names old new = (n : N) → Among n old ⊎ Among n names → Among n new
 
+-- those under which something stands
+abbrev pub HoldsThese : {N V W : Type 0} → List (N × V) → (old new : List (N × W)) → Type 0
+HoldsThese those old new = AddsNames (names_of those) (names_of old) (names_of new)
+
 -- ---- what nodes need
 
 -- Under these names stands what the imports of the graph ask, and what its instances ask that have no argument; these are the

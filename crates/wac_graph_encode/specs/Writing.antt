@@ -225,6 +225,10 @@ pub record AddsExports (nodes : List (ℕ × SortIndex)) (exports : List (Name �
   pub added : new ≡ old ++ entries
   pub are : AllZip (IsExportOf nodes) exports entries
 
+-- for each at these places
+abbrev pub AddsAt : List (ℕ × SortIndex) → List (Name × ℕ) → List ℕ → (old new : List CodeEntry) → Type 0
+AddsAt nodes exports places old new = AddsExports nodes (exports_at exports places) old new
+
 -- in some order
 pub record AddsInOrder (nodes : List (ℕ × SortIndex)) (exports : List (Name × ℕ)) (old new : List CodeEntry) : Type 0 where
   pub listing : List (Name × ℕ)

@@ -11,7 +11,7 @@ ghost use Rattle.wac_graph_scopes.specs.Items.{sort_of};
 ghost use Rattle.wac_graph_encode.specs.Beginning.{IsBare};
 ghost use Rattle.wac_graph_encode.specs.Ready.{AddsNames, AddsSource, AllStand, AllStandUnder, ArePlacedAt, AreThere, CanBeAlias, CanBePassed, HasNeeded};
 ghost use Rattle.wac_graph_encode.specs.Ready.{IsPlacedAt, IsReady, IsReadyWith, IsUnsorted, NeededStand, StandsUnder, called_names};
-ghost use Rattle.wac_graph_encode.specs.Writing.{Finishes, AddsArgument, AddsCalled, AddsEntry, AddsExport, AddsExports, AddsInOrder, exports_at, AddsGiven, AddsNeeded, AddsOnly, AreCalled, AreGivenIn, Below, GivesUnder, IsAliasAt, IsSameRoot, KeepsNodes, KeepsWritten, PassesAll, UpTo, UpToOne, WritesInstance, WritesNode, exported_as, noted, NestsNoMore, AllAreWritten};
+ghost use Rattle.wac_graph_encode.specs.Writing.{Finishes, AddsArgument, AddsCalled, AddsEntry, AddsExport, AddsAt, AddsInOrder, AddsGiven, AddsNeeded, AddsOnly, AreCalled, AreGivenIn, Below, GivesUnder, IsAliasAt, IsSameRoot, KeepsNodes, KeepsWritten, PassesAll, UpTo, UpToOne, WritesInstance, WritesNode, exported_as, noted, NestsNoMore, AllAreWritten};
 
 use crate::exports::export_order;
 use crate::labels::names_of_nodes;
@@ -315,7 +315,7 @@ fn export_at(
     entries: &mut Vec<Entry>,
 ) -> Result<(), AllocError>
     requires { AllAreWritten graph.now nodes.now.entries }
-    ensures { OnOk result (AddsExports nodes.now.entries (exports_at graph.now.exports (at ∷ [])) entries.old.items entries.new.items) }
+    ensures { OnOk result (AddsAt nodes.now.entries graph.now.exports (at ∷ []) entries.old.items entries.new.items) }
 {
     graph.see_sound();
     match graph.exports().get(at) {
@@ -332,7 +332,7 @@ fn push_in_order(
     entries: &mut Vec<Entry>,
 ) -> Result<(), AllocError>
     requires { AllAreWritten graph.now nodes.now.entries }
-    ensures { OnOk result (AddsExports nodes.now.entries (exports_at graph.now.exports order.now) entries.old.items entries.new.items) }
+    ensures { OnOk result (AddsAt nodes.now.entries graph.now.exports order.now entries.old.items entries.new.items) }
 {
     for at in order {
         export_at(graph, nodes, *at, entries)?;

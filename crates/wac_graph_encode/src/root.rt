@@ -17,7 +17,7 @@ ghost use Rattle.wac_graph_encode.specs.Writing.{AddsEntry, AddsIndex, AddsInsta
 ghost use Rattle.wac_graph_encode.specs.Rooting.{AddsRead, IsNewScope, ReadsAtRoot, TakesScope, WritesItem, WritesOuters, WritesOwn, counter};
 ghost use Rattle.wac_graph_encode.specs.Defining.{AddsDefinitions, WritesDefinition, WritesDefinitions};
 ghost use Rattle.wac_graph_encode.specs.Beginning.{Begins, BeginsRoot, HoldsAll, HoldsTaken, IsToBegin, NestsThese};
-ghost use Rattle.wac_graph_encode.specs.Ready.{AddsNames};
+ghost use Rattle.wac_graph_encode.specs.Ready.{AddsNames, HoldsThese};
 ghost use Rattle.wac_graph_encode.specs.Nesting.{NestsAll, NestsBehind, NestsOne, bytes_of};
 ghost use Rattle.wac_graph_encode.specs.Importing.{ImportsAll, ImportsBefore, ImportsComponent, ImportsPackage};
 
@@ -31,9 +31,10 @@ use wac_graph_causes::names::dependency_name;
 use wac_graph_core::{CompositionGraph, NodeId, PackageId};
 use wac_graph_scopes::fault::WriteError;
 use wac_graph_scopes::imports::{ImportScope, Importing, SortIndex};
-use wac_graph_scopes::items::{ItemScope, describe_package};
+use wac_graph_scopes::items::ItemScope;
 use wac_graph_scopes::parts::Item;
 use wac_graph_scopes::scope::KnownTypes;
+use wac_graph_scopes::worlds::describe_package;
 use wac_types_base::{ItemKind, Types, WorldId};
 
 /// How many things of each sort stand there.
@@ -279,7 +280,7 @@ fn import_packages(
     packages: &mut IndexMap<PackageId, u64>,
 ) -> Result<(), WriteError>
     ensures imports { ImportsAll graph.now types.now worlds.now.entries scope.old packages.old scope.new packages.new result }
-    ensures held { OnOk result (AddsNames (names_of worlds.now.entries) (names_of packages.old.entries) (names_of packages.new.entries)) }
+    ensures held { OnOk result (HoldsThese worlds.now.entries packages.old.entries packages.new.entries) }
     ensures places { scope.new.places ≡ scope.old.places }
 {
     for (id, world) in worlds.iter() {

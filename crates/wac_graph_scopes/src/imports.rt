@@ -11,13 +11,13 @@ ghost use Rattle.wac_graph_bytes.specs.declared.value.Sort.TheVariants.{Instance
 ghost use Rattle.wac_graph_bytes.specs.Counting.{description_sort};
 ghost use Rattle.wac_graph_bytes.specs.Typing.{Worlds, Scope, nothing_inside};
 ghost use Rattle.wac_graph_scopes.specs.Used.{put_used, IsUsedAs};
-ghost use Rattle.wac_graph_scopes.specs.Parts.{IsUsedKind, exports_of};
+ghost use Rattle.wac_graph_scopes.specs.Parts.{IsUsedKind};
 ghost use Rattle.wac_graph_scopes.specs.Items.{IsItemScope, with_known, Never, Misses, HasNameAt, HasEntry, IsNoResource, DescribesSimply, DescribesEntry, DescribesOwn};
 ghost use Rattle.wac_graph_scopes.specs.Orders.{IsOrder, SourcesFirst};
 ghost use Rattle.wac_graph_scopes.specs.ItemRefusals.{RefusedTypeApart, RefusedItem, RefusedUse};
 ghost use Rattle.wac_graph_scopes.specs.Imports.{all_imports, all_exports, NoneWritten, IsInstanceImport, IsPlaced, GivesTaken, NotGiven, FindsSource, AddsUsed, AliasesUse, KeepsWorld, DescribesImport, DescribesThere, DescribesOther, MayDescribe};
 ghost use Rattle.wac_graph_scopes.specs.Imports.{called_places, own_places, import_places, FindsFirst, IsImportedAs, IsFoundFor, FindsImported};
-ghost use Rattle.wac_graph_scopes.specs.Imports.{ImportsDescribed, ImportsAt, WritesImport, WritesInOrder, ExportsIndexed, AliasesInstance, AliasesSource, BeginsWorld};
+ghost use Rattle.wac_graph_scopes.specs.Imports.{ImportsDescribed, ImportsAt, WritesImport, WritesInOrder, ExportsIndexed, BeginsWorld};
 
 use crate::fault::WriteError;
 use crate::items::{
@@ -27,8 +27,8 @@ use crate::items::{
 use crate::order::{ImportOrder, order_of};
 use crate::parts::{
     Item, Use, export_at, export_count, identifier, import_at, import_count, interface_of,
-    is_fresh, is_used_kind, taken, use_at, use_count, world_export_at, world_export_count,
-    world_use_at, world_use_count, world_use_named,
+    is_fresh, taken, use_at, use_count, world_export_at, world_export_count, world_use_at,
+    world_use_count, world_use_named,
 };
 use crate::scope::KnownTypes;
 use crate::used::{TypeName, UsedIndex, UsedTypes};
@@ -335,7 +335,7 @@ impl ImportScope {
     }
 
     /// Makes an alias of an import's export, which is a used type.
-    fn add_used(
+    pub(crate) fn add_used(
         &mut self,
         alloc: Global,
         types: &Types,
@@ -749,67 +749,5 @@ impl ImportScope {
             depth: 0,
         };
         export_item(alloc, &mut self.scope, all.types, around, item)
-    }
-
-    /// Makes aliases of the types of an exported instance, which stand in place of those of the imported one.
-    pub(crate) fn alias_exported(
-        &mut self,
-        alloc: Global,
-        all: Importing<'_>,
-        identifier: &str,
-        id: InterfaceId,
-        instance: u64,
-    ) -> Result<(), WriteError>
-        ensures { AliasesInstance all.entry id instance self.old self.new result }
-    {
-        for at in 0..export_count(all.types, id) {
-            self.alias_export_at(alloc, all, identifier, id, at, instance)?;
-        }
-        Ok(())
-    }
-
-    /// Makes an alias of the export at a place of an exported instance, if it is a type that can be used.
-    fn alias_export_at(
-        &mut self,
-        alloc: Global,
-        all: Importing<'_>,
-        identifier: &str,
-        id: InterfaceId,
-        at: usize,
-        instance: u64,
-    ) -> Result<(), WriteError>
-        requires { AreDistinct (names_of (exports_of all.types.now id)) }
-        ensures { AliasesInstance all.entry id instance self.old self.new result }
-    {
-        all.types.see_acyclic();
-        match export_at(all.types, id, at) {
-            Some(own) => {
-                let name = TypeName {
-                    identifier,
-                    name: own.name,
-                };
-                self.alias_own(alloc, all, name, own.kind, instance)
-            }
-            None => Ok(()),
-        }
-    }
-
-    /// Makes an alias of what an instance exports, if it is a type that can be used.
-    fn alias_own(
-        &mut self,
-        alloc: Global,
-        all: Importing<'_>,
-        name: TypeName<'_>,
-        item: ItemKind,
-        instance: u64,
-    ) -> Result<(), WriteError>
-        requires { Stands all.types.now item }
-        ensures { AliasesSource all.entry instance name.entry.name.now item self.old self.new result }
-    {
-        all.types.see_acyclic();
-        if is_used_kind(item) {
-            let _ = self.add_used(alloc, all.types, instance, name, item)?;
-        }
-        Ok(())
     }
 }

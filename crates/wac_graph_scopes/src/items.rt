@@ -28,7 +28,7 @@ use crate::parts::{
 use crate::scope::{TypeScope, next_of};
 use crate::used::{TypeName, UsedIndex, UsedTypes};
 use crate::value::{define_value, fits_in, note_resource, note_value, push_func};
-use crate::worlds::{component_type, package_type};
+use crate::worlds::component_type;
 use std::alloc::{AllocError, Global};
 use std::mem;
 use wac_graph_bytes::{Alias, Declaration, Description, Sort};
@@ -104,7 +104,7 @@ impl ItemScope {
     }
 
     /// Adds a declaration of a type.
-    fn add_type(&mut self, declaration: Declaration) -> Result<u64, WriteError>
+    pub(crate) fn add_type(&mut self, declaration: Declaration) -> Result<u64, WriteError>
         ensures adds { AddsType declaration self.old self.new result }
         ensures entry { EntersType declaration self.old self.new result }
         ensures refused { IfErr result (λ e. e ≡ WriteError.Memory) }
@@ -623,38 +623,6 @@ fn push_instance_type(
     };
     let declarations = instance_type(alloc, all)?;
     scope.add_type(Declaration::InstanceType(declarations))
-}
-
-/// The index of the type of a package's component, which is written.
-fn push_package_type(
-    alloc: Global,
-    scope: &mut ItemScope,
-    types: &Types,
-    id: WorldId,
-) -> Result<u64, WriteError>
-    ensures { StatesClosed types.now (ItemKind.Component id) scope.old scope.new result }
-{
-    let declarations = package_type(alloc, types, id)?;
-    scope.add_type(Declaration::ComponentType(declarations))
-}
-
-/// What a package's component is, whose exports are over those exports that they use; its type is written.
-///
-/// # Errors
-///
-/// `WriteError` where its type cannot be written, or memory is wanting.
-pub fn describe_package(
-    alloc: Global,
-    scope: &mut ItemScope,
-    types: &Types,
-    world: WorldId,
-) -> Result<Description, WriteError>
-    ensures { Stands types.now (ItemKind.Component world)
-        → DescribesSimply types.now (ItemKind.Component world) scope.old scope.new result }
-{
-    types.see_acyclic();
-    let index = push_package_type(alloc, scope, types, world)?;
-    Ok(Description::Component(index))
 }
 
 /// The index of a component's type, which is written.

@@ -14,7 +14,7 @@ pub mod prints;
 pub mod scope;
 pub mod used;
 mod value;
-mod worlds;
+pub mod worlds;
 
 pub use laws::types_at_the_root;
 pub use value::fits_in;

@@ -3,22 +3,24 @@
 ghost use Rattle.std.specs.Prelude.{◌≡◌, Some, true, false, slice_get, IfSome, IfNone, IfOk};
 ghost use Rattle.wac_types_base.specs.declared.item.ItemKind.{ItemKind};
 ghost use Rattle.wac_types_base.specs.Entries.{names_of, has_name, AreDistinct};
+ghost use Rattle.wac_types_base.specs.Collection.{Stands};
 ghost use Rattle.wac_types_fit.specs.Trees.{IsInside};
-ghost use Rattle.wac_graph_scopes.specs.Parts.{IsFresh};
-ghost use Rattle.wac_graph_scopes.specs.Items.{HasNameAt};
+ghost use Rattle.wac_graph_scopes.specs.Parts.{exports_of, IsFresh};
+ghost use Rattle.wac_graph_scopes.specs.Items.{HasNameAt, StatesClosed, DescribesSimply};
 ghost use Rattle.wac_graph_scopes.specs.Imports.{all_exports, KeepsWorld, WritesInOrder, KeepsExporting, ExportsAt, ExportsInOrder, ExportsAll, ExportsThere};
-ghost use Rattle.wac_graph_scopes.specs.Imports.{WritesBetween, WritesBeforeOthers, BeginsWorld, MakesComponent};
+ghost use Rattle.wac_graph_scopes.specs.Imports.{AliasesInstance, AliasesSource, WritesBetween, WritesBeforeOthers, BeginsWorld, MakesComponent};
 
 use crate::fault::WriteError;
 use crate::imports::{ImportScope, Importing};
 use crate::items::{ItemScope, add_name, export_resource};
 use crate::order::export_order;
 use crate::parts::{
-    Item, export_at, export_count, identifier, interface_of, is_fresh, use_at, use_count,
-    world_export_at, world_export_count, world_use_at, world_use_count,
+    Item, export_at, export_count, identifier, interface_of, is_fresh, is_used_kind, use_at,
+    use_count, world_export_at, world_export_count, world_use_at, world_use_count,
 };
+use crate::used::TypeName;
 use std::alloc::{AllocError, Global};
-use wac_graph_bytes::Declaration;
+use wac_graph_bytes::{Declaration, Description};
 use wac_types_base::{InterfaceId, ItemKind, Names, Types, WorldId};
 
 /// Writes the imports at places of a world.
@@ -212,6 +214,68 @@ fn used_interface(item: Item<'_>, used: &Names) -> Option<InterfaceId>
     }
 }
 
+/// Makes aliases of the types of an exported instance, which stand in place of those of the imported one.
+fn alias_types(
+    alloc: Global,
+    all: Importing<'_>,
+    scope: &mut ImportScope,
+    identifier: &str,
+    id: InterfaceId,
+    instance: u64,
+) -> Result<(), WriteError>
+    ensures { AliasesInstance all.entry id instance scope.old scope.new result }
+{
+    for at in 0..export_count(all.types, id) {
+        alias_type_at(alloc, all, scope, identifier, id, at, instance)?;
+    }
+    Ok(())
+}
+
+/// Makes an alias of the export at a place of an exported instance, if it is a type that can be used.
+fn alias_type_at(
+    alloc: Global,
+    all: Importing<'_>,
+    scope: &mut ImportScope,
+    identifier: &str,
+    id: InterfaceId,
+    at: usize,
+    instance: u64,
+) -> Result<(), WriteError>
+    requires { AreDistinct (names_of (exports_of all.types.now id)) }
+    ensures { AliasesInstance all.entry id instance scope.old scope.new result }
+{
+    all.types.see_acyclic();
+    match export_at(all.types, id, at) {
+        Some(own) => {
+            let name = TypeName {
+                identifier,
+                name: own.name,
+            };
+            alias_type(alloc, all, scope, name, own.kind, instance)
+        }
+        None => Ok(()),
+    }
+}
+
+/// Makes an alias of what an instance exports, if it is a type that can be used.
+fn alias_type(
+    alloc: Global,
+    all: Importing<'_>,
+    scope: &mut ImportScope,
+    name: TypeName<'_>,
+    item: ItemKind,
+    instance: u64,
+) -> Result<(), WriteError>
+    requires { Stands all.types.now item }
+    ensures { AliasesSource all.entry instance name.entry.name.now item scope.old scope.new result }
+{
+    all.types.see_acyclic();
+    if is_used_kind(item) {
+        let _ = scope.add_used(alloc, all.types, instance, name, item)?;
+    }
+    Ok(())
+}
+
 /// Exports an item. If it is of an interface that exports use, its types stand for them from then on.
 #[cycle(types)]
 fn export_other(
@@ -225,7 +289,7 @@ fn export_other(
 {
     let index = scope.export(alloc, all, item)?;
     match used_interface(item, used) {
-        Some(id) => scope.alias_exported(alloc, all, item.name, id, index),
+        Some(id) => alias_types(alloc, all, scope, item.name, id, index),
         None => Ok(()),
     }
 }
@@ -344,11 +408,7 @@ fn begun(alloc: Global, all: Importing<'_>) -> Result<ImportScope, AllocError>
 }
 
 /// The declarations of the component type of a package, whose exports are over those interfaces of their own that they use.
-pub(crate) fn package_type(
-    alloc: Global,
-    types: &Types,
-    id: WorldId,
-) -> Result<Vec<Declaration>, WriteError>
+fn package_type(alloc: Global, types: &Types, id: WorldId) -> Result<Vec<Declaration>, WriteError>
     ensures { MakesComponent types.now id result }
 {
     let all = Importing {
@@ -378,4 +438,36 @@ pub(crate) fn component_type(
     };
     let mut scope = begun(alloc, all)?;
     write_component(alloc, all, &mut scope)
+}
+
+/// The index of the type of a package's component, which is written.
+fn push_package_type(
+    alloc: Global,
+    scope: &mut ItemScope,
+    types: &Types,
+    id: WorldId,
+) -> Result<u64, WriteError>
+    ensures { StatesClosed types.now (ItemKind.Component id) scope.old scope.new result }
+{
+    let declarations = package_type(alloc, types, id)?;
+    scope.add_type(Declaration::ComponentType(declarations))
+}
+
+/// What a package's component is, whose exports are over those exports that they use; its type is written.
+///
+/// # Errors
+///
+/// `WriteError` where its type cannot be written, or memory is wanting.
+pub fn describe_package(
+    alloc: Global,
+    scope: &mut ItemScope,
+    types: &Types,
+    world: WorldId,
+) -> Result<Description, WriteError>
+    ensures { Stands types.now (ItemKind.Component world)
+        → DescribesSimply types.now (ItemKind.Component world) scope.old scope.new result }
+{
+    types.see_acyclic();
+    let index = push_package_type(alloc, scope, types, world)?;
+    Ok(Description::Component(index))
 }

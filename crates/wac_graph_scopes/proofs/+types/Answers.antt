@@ -219,8 +219,8 @@ worlds::export_other-returns-in-Some m c w outer imported exported stands is new
     let i = e.goes.writing.inside in
     let instance : IsInstanceAt w (i.here ∷ outer) (tree_in types (ItemKind.Instance id)) c.in_ok-index.index =
     (Item n sort.Instance (tree_in types (ItemKind.Instance id)), subst (λ (k : ItemKind). found (i.here ∷ outer) sort.Instance c.in_ok-index.index ≡ Some (Item n sort.Instance (tree_in types k))) c.in-Some.ensures (e.means sort.Instance (ap sort_of c.in-Some.ensures)), refl) in
-    IfOk-weaker c.alias_exported.result _ _ (λ u on. on.goes)
-    (c.alias_exported.ensures w outer i imported (exported ++ n ∷ []) (written w types outer world imported (exported ++ n ∷ []) c.export.new.self e.goes) instance)
+    IfOk-weaker c.alias_types.result _ _ (λ u on. on.goes)
+    (c.alias_types.ensures w outer i imported (exported ++ n ∷ []) (written w types outer world imported (exported ++ n ∷ []) c.export.new.self e.goes) instance)
 
 pub worlds::export_other-returns-in-None : goal.worlds::export_other-returns-in-None
 worlds::export_other-returns-in-None m c w outer imported exported stands is new h = (c.in_ok-index.ensures w outer imported exported stands is new h).goes

@@ -1,7 +1,7 @@
 use Rattle.std.proofs.Common.{refl}
 use Rattle.wac_types_base.specs.declared.item.ItemKind.{ItemKind}
 use Rattle.wac_graph_scopes.proofs.ImportLaws.{component_described}
-use Rattle.wac_graph_scopes.proofs.items.describe_package.Goals as goal
+use Rattle.wac_graph_scopes.proofs.worlds.describe_package.Goals as goal
 
 pub returns : goal.returns
 returns c stands w outer i h =

@@ -1,7 +1,7 @@
 use Rattle.std.proofs.Common.{refl, ◌∷◌}
 use Rattle.wac_types_fit.specs.Trees.{tree_in}
 use Rattle.wac_graph_scopes.proofs.ImportLaws.{source_on}
-use Rattle.wac_graph_scopes.proofs.imports.ImportScope.alias_own.Goals as goal
+use Rattle.wac_graph_scopes.proofs.worlds.alias_type.Goals as goal
 
 pub returns-in_ok-add_used : goal.returns-in_ok-add_used
 returns-in_ok-add_used c w outer i imported exported h s =

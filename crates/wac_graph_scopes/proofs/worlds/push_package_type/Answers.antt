@@ -4,7 +4,7 @@ use Rattle.wac_types_base.specs.declared.item.ItemKind.{ItemKind}
 use Rattle.wac_types_fit.specs.Trees.{tree_in}
 use Rattle.wac_graph_bytes.specs.Typing.{Known}
 use Rattle.wac_graph_scopes.proofs.WritingLaws.{component_reads, type_given}
-use Rattle.wac_graph_scopes.proofs.items.push_package_type.Goals as goal
+use Rattle.wac_graph_scopes.proofs.worlds.push_package_type.Goals as goal
 
 pub returns : goal.returns
 returns c stands w outer i h =
