@@ -14,7 +14,7 @@ use Rattle.wac_composition.specs.Classes.{class, spelling}
 use Rattle.wac_composition.specs.Merging.{kept}
 use Rattle.wac_composition.specs.OuterImports.{asked_in, outer_imports}
 use Rattle.wac_composition.specs.Writable.{holder, as_defined, is_value, outer_unwritable, definition_unwritable, package_unwritable, alias_unwritable}
-use Rattle.wac_composition.specs.Circles.{written_inside, written_whole}
+use Rattle.wac_composition.specs.Circles.{written_whole, written_package}
 use Rattle.std.specs.Option.{option_or}
 use Rattle.wac_composition.specs.Conflicts.{Cause, Unwritable, first_found, implicit_with, implicit_by, implicit_conflict, merge_cause, merge_fails, those_in, merge_conflict, cause_at, placed, unwritable_cause, circle_cause, late_unwritable, whole_forms, outers_written, dependencies_of, first_cause}
 use Rattle.wac_composition.specs.Against.{IsUnmerged, StandsAgainst, asked_twice, import_unmerged, ask_unmerged, alias_of_value, outer_import, outer_in_circle, circle_in_definition, circle_in_package, definition, imported_package, FirstStands}
@@ -203,7 +203,7 @@ module _ {A I : Type 0} (define : Bool) (c : Composition A I) where
   of_definitions = flat_map written_whole (whole_forms c.definitions)
 
   abbrev of_packages : List (Name × Stated)
-  of_packages = flat_map written_inside (dependencies_of define c)
+  of_packages = flat_map written_package (dependencies_of define c)
 
   circle_stands : (x : Cause A) → circle_cause define c (spelling (asks_of c)) outers ≡ Some x → Stands x
   circle_stands x e = elim (or_some (first_found (cause_at (late_unwritable true)) of_outers) _ x e) [

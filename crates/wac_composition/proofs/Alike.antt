@@ -12,7 +12,7 @@ use Rattle.wac_composition.specs.OuterImports.{outer_imports}
 use Rattle.std.specs.Option.{option_or}
 use Rattle.wac_composition.specs.Conflicts.{ImportNames, ExportNames, first_found, dependency_name, each_once, dependencies_of, implicit_conflict, merge_conflict, circle_cause, cause_at, placed, late_unwritable, whole_forms, outers_written, unwritable_cause, first_cause, twins, alike, name_cause}
 use Rattle.wac_composition.specs.Writable.{outer_unwritable, definition_unwritable, package_unwritable, alias_unwritable}
-use Rattle.wac_composition.specs.Circles.{written_inside, written_whole}
+use Rattle.wac_composition.specs.Circles.{written_whole, written_package}
 use Rattle.wac_types_written.specs.Written.{without_uses}
 use Rattle.wac_composition.specs.Worlds.{world_exports, composed_world}
 use Rattle.wac_composition.specs.Alike.{IsSameMade, AreSameMade, IsAlike, MeansAlike}
@@ -58,7 +58,7 @@ module _ {A I : Type 0} where
     circle define = λ i.
         option_or (first_found (cause_at (late_unwritable true)) (outers_written (spelling (asks i)) (outer_imports (asks i))))
         (option_or (first_found (cause_at (late_unwritable true)) (flat_map written_whole (whole_forms (same.definitions i))))
-        (first_found (cause_at (late_unwritable true)) (flat_map written_inside (dependencies define i))))
+        (first_found (cause_at (late_unwritable true)) (flat_map written_package (dependencies define i))))
 
     cause : (define : Bool) → first_cause define c ≡ first_cause define d
     cause define = λ i.

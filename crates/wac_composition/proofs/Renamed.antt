@@ -14,7 +14,7 @@ use Rattle.wac_composition.specs.Names.{greatest}
 use Rattle.wac_composition.specs.Classes.{near, within_steps, class, spelled, spelling, akin}
 use Rattle.wac_composition.specs.Merging.{kept, identified}
 use Rattle.wac_composition.specs.OuterImports.{with_new, asked_in, outer_of, outers_from, outer_imports}
-use Rattle.wac_composition.specs.Circles.{written_inside, written_whole}
+use Rattle.wac_composition.specs.Circles.{written_whole, written_package}
 use Rattle.std.specs.Option.{option_or}
 use Rattle.wac_composition.specs.Conflicts.{Cause, Unwritable, ImportNames, ExportNames, first_found, dependency_name, each_once, dependencies_of, implicit_with, implicit_by, circle_cause, implicit_conflict, merge_cause, merge_fails, those_in, merge_conflict, cause_at, placed, unwritable_cause, late_unwritable, is_whole, written_forms, whole_forms, outers_written, first_cause, twins, alike, import_names, name_cause}
 use Rattle.wac_composition.specs.Writable.{outer_unwritable, definition_unwritable, package_unwritable, alias_unwritable}
@@ -274,8 +274,8 @@ module _ {A B : Type 0} (f : A → B) where
       circle_renamed define spell outers =
           let definitions_ : first_found (cause_at {A = B} (late_unwritable true)) (flat_map written_whole (whole_forms (map (placed_renamed f) c.definitions))) ≡ option_map as_cause (first_found (cause_at (late_unwritable true)) (flat_map written_whole (whole_forms c.definitions))) =
           ap (λ es. first_found (cause_at (late_unwritable true)) (flat_map written_whole es)) (whole_same c.definitions) ∙ found_same (cause_at (late_unwritable true)) (cause_at (late_unwritable true)) (cause_here (late_unwritable true)) (flat_map written_whole (whole_forms c.definitions)) in
-          let packages_ : first_found (cause_at {A = B} (late_unwritable true)) (flat_map written_inside (dependencies_of define (renamed f g c))) ≡ option_map as_cause (first_found (cause_at (late_unwritable true)) (flat_map written_inside (dependencies_of define c))) =
-          ap (λ es. first_found (cause_at (late_unwritable true)) (flat_map written_inside es)) (dependencies_same define) ∙ found_same (cause_at (late_unwritable true)) (cause_at (late_unwritable true)) (cause_here (late_unwritable true)) (flat_map written_inside (dependencies_of define c)) in
+          let packages_ : first_found (cause_at {A = B} (late_unwritable true)) (flat_map written_package (dependencies_of define (renamed f g c))) ≡ option_map as_cause (first_found (cause_at (late_unwritable true)) (flat_map written_package (dependencies_of define c))) =
+          ap (λ es. first_found (cause_at (late_unwritable true)) (flat_map written_package es)) (dependencies_same define) ∙ found_same (cause_at (late_unwritable true)) (cause_at (late_unwritable true)) (cause_here (late_unwritable true)) (flat_map written_package (dependencies_of define c)) in
           or_both (first_found (cause_at (late_unwritable true)) (outers_written spell outers)) _ (first_found (cause_at (late_unwritable true)) (outers_written spell outers)) _ (found_same (cause_at (late_unwritable true)) (cause_at (late_unwritable true)) (cause_here (late_unwritable true)) (outers_written spell outers))
           (or_both _ _ _ _ definitions_ packages_)
 

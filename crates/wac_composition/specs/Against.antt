@@ -10,7 +10,7 @@ use Rattle.wac_composition.specs.Classes.{class, spelling}
 use Rattle.wac_composition.specs.Merging.{kept}
 use Rattle.wac_composition.specs.OuterImports.{asked_in, outer_imports}
 use Rattle.wac_composition.specs.Writable.{holder, as_defined}
-use Rattle.wac_composition.specs.Circles.{written_inside, written_whole}
+use Rattle.wac_composition.specs.Circles.{written_whole, written_package}
 use Rattle.wac_composition.specs.NotWritten.{CannotBeWritten, PackageCannotBeWritten}
 use Rattle.wac_composition.specs.Conflicts.{Cause, ImplicitImport, ExplicitImport, ImportTypes, Unwritable, those_in, dependencies_of, whole_forms, outers_written, first_cause}
 
@@ -40,7 +40,7 @@ module _ {A I : Type 0} (define : Bool) (c : Composition A I) where
     circle_in_definition : (n : Name) (x : Stated) → Among (n, x) (flat_map written_whole (whole_forms c.definitions))
         → CannotBeWritten true (holder [] []) n x → StandsAgainst (Unwritable n)
     -- in an imported package
-    circle_in_package : (n : Name) (x : Stated) → Among (n, x) (flat_map written_inside (dependencies_of define c))
+    circle_in_package : (n : Name) (x : Stated) → Among (n, x) (flat_map written_package (dependencies_of define c))
         → CannotBeWritten true (holder [] []) n x → StandsAgainst (Unwritable n)
     definition : (d : Placed A) → Among d c.definitions
         → CannotBeWritten false (holder [] (outer_imports (asks_of c))) d.name (as_defined d.item)

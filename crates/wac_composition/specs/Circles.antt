@@ -4,7 +4,7 @@ use Rattle.std.specs.Prelude.{ℕ, zero, suc, Bool, true, false, ◌||◌, List,
 use Rattle.std.specs.List.{flat_map, fold}
 use Rattle.wac_types_base.specs.Entries.{Name, value_at, names_of, has_name}
 use Rattle.wac_types_base.specs.Collection.{Shape, interface, world, type_of}
-use Rattle.wac_types_base.specs.Stated.{Stated, folded, Parts, parts_at, Used, kind_of, as_type, interface_of, identifier_of}
+use Rattle.wac_types_base.specs.Stated.{Stated, folded, Parts, parts_at, Used, kind_of, as_type, interface_of, imports_of, exports_of, identifier_of}
 use Rattle.wac_composition.specs.Writable.{has_items}
 use Rattle.wac_types_written.specs.Written.{found_in, over_own}
 
@@ -108,3 +108,14 @@ written_inside e = map (λ x. (e.0, x.1)) (flat_map (interfaces_written (λ n. n
 -- the item itself, and these
 abbrev pub written_whole : Name × Stated → List (Name × Stated)
 written_whole e = e ∷ written_inside e
+
+-- the interfaces that an imported package exports, each as it is written: over those that it imports, and those that are exported
+-- before it
+abbrev pub exports_written : Stated → List (Name × Stated)
+exports_written w =
+    written_from (λ n. n) (interfaces_in (exports_of w)) (names_of (imports_of w))
+    (written_names (λ n. n) (interfaces_in (exports_of w)))
+
+-- these, and those of the component types that stand in it
+abbrev pub written_package : Name × Stated → List (Name × Stated)
+written_package e = written_inside e ++ map (λ x. (e.0, x.1)) (exports_written e.1)

@@ -14,7 +14,7 @@ use Rattle.wac_composition.specs.Merging.{kept}
 use Rattle.wac_composition.specs.OuterImports.{asked_in, outer_imports}
 use Rattle.wac_types_written.specs.Written.{written_definition}
 use Rattle.wac_composition.specs.Writable.{holder, unwritable, outer_unwritable, definition_unwritable, package_unwritable, alias_unwritable}
-use Rattle.wac_composition.specs.Circles.{interfaces_written, written_inside, written_whole}
+use Rattle.wac_composition.specs.Circles.{interfaces_written, written_inside, written_whole, written_package}
 
 pub data Cause (A : Type 0) : Type 0 where
   -- an instance's import that is not given has exactly the name of an import
@@ -131,7 +131,7 @@ module _ {A : Type 0} where
   circle_cause define c spell outers =
       option_or (first_found (cause_at (late_unwritable true)) (outers_written spell outers))
       (option_or (first_found (cause_at (late_unwritable true)) (flat_map written_whole (whole_forms c.definitions)))
-      (first_found (cause_at (late_unwritable true)) (flat_map written_inside (dependencies_of define c))))
+      (first_found (cause_at (late_unwritable true)) (flat_map written_package (dependencies_of define c))))
 
   -- the first cause but for sizes and for names that are alike
   abbrev pub first_cause : {I : Type 0} → Bool → Composition A I → Option (Cause A)

@@ -22,7 +22,7 @@ use Rattle.wac_types_base.proofs.Used.{drop_next}
 use Rattle.wac_types_written.specs.Forms.{ItemsStand, stated_items}
 use Rattle.wac_types_written.proofs.Growing.{items_kept}
 use Rattle.wac_composition.specs.Classes.{spelling}
-use Rattle.wac_composition.specs.Circles.{imports_inside, interfaces_written, written_inside, written_whole}
+use Rattle.wac_composition.specs.Circles.{imports_inside, interfaces_written, written_inside, written_whole, written_package}
 use Rattle.wac_composition.specs.Conflicts.{Cause, cause_at, late_unwritable}
 use Rattle.wac_composition.proofs.Lists.{mapped_among}
 use Rattle.wac_graph_core.specs.Graph.{Graph}
@@ -148,12 +148,12 @@ module _ (c d : Collection) (g : Grows c d) where
   copy_kept (Some k) h = g.stand k h
 
   pub packages_more : (h : Graph) (ps : List (PackageId × WorldId)) (id : PackageId) (w : WorldId) → Stands c (ItemKind.Component w)
-      → flat_map written_inside (packages_in h c ps) ++ written_inside (package_in h d id w) ≡ flat_map written_inside (packages_in h c (ps ++ (id, w) ∷ []))
+      → flat_map written_package (packages_in h c ps) ++ written_package (package_in h d id w) ≡ flat_map written_package (packages_in h c (ps ++ (id, w) ∷ []))
   packages_more h ps id w s =
-      ap (λ (x : Stated). flat_map written_inside (packages_in h c ps) ++ written_inside (dependency_of h id, x)) (stated_kept c d g (ItemKind.Component w) s)
-      ∙ ap (λ l. flat_map written_inside (packages_in h c ps) ++ l) (sym (append-nil (written_inside (package_in h c id w))))
-      ∙ sym (flat_map-append written_inside (packages_in h c ps) (package_in h c id w ∷ []))
-      ∙ ap (flat_map written_inside) (sym (map-append (λ (p : PackageId × WorldId). package_in h c p.0 p.1) ps ((id, w) ∷ [])))
+      ap (λ (x : Stated). flat_map written_package (packages_in h c ps) ++ written_package (dependency_of h id, x)) (stated_kept c d g (ItemKind.Component w) s)
+      ∙ ap (λ l. flat_map written_package (packages_in h c ps) ++ l) (sym (append-nil (written_package (package_in h c id w))))
+      ∙ sym (flat_map-append written_package (packages_in h c ps) (package_in h c id w ∷ []))
+      ∙ ap (flat_map written_package) (sym (map-append (λ (p : PackageId × WorldId). package_in h c p.0 p.1) ps ((id, w) ∷ [])))
 
 -- ---- packages one after another
 
@@ -162,7 +162,7 @@ pub record PackagesAdded (h : Graph) (c d : Collection) (ps turn : List (Package
   pub grows : Grows c d
   pub done : List (PackageId × WorldId)
   pub all : done ++ turn ≡ ps
-  pub adds : AddsLate c d before after (flat_map written_inside (packages_in h c done))
+  pub adds : AddsLate c d before after (flat_map written_package (packages_in h c done))
 
 module _ (h : Graph) (c : Collection) (ps : List (PackageId × WorldId)) (before : List Late) where
   pub packages_begin : IsAcyclic c → (turn : List (PackageId × WorldId)) → turn ≡ ps → PackagesAdded h c c ps turn before before
@@ -171,8 +171,11 @@ module _ (h : Graph) (c : Collection) (ps : List (PackageId × WorldId)) (before
   among_turn : (done turn : List (PackageId × WorldId)) (p : PackageId × WorldId) (rest : List (PackageId × WorldId)) → turn ≡ p ∷ rest → done ++ turn ≡ ps → Among p ps
   among_turn done turn p rest e f = subst (Among p) f (Among-right p done turn (subst (Among p) (sym e) (inl refl)))
 
+  pub package_stands : (d : Collection) (turn rest : List (PackageId × WorldId)) (id : PackageId) (w : WorldId) (mid : List Late) → PackagesStand c ps → turn ≡ (id, w) ∷ rest → PackagesAdded h c d ps turn before mid → Stands d (ItemKind.Component w)
+  package_stands d turn rest id w mid stand steps r = r.grows.stand (ItemKind.Component w) (stand (id, w) (among_turn r.done turn (id, w) rest steps r.all))
+
   pub packages_next : (d e : Collection) (turn rest : List (PackageId × WorldId)) (id : PackageId) (w : WorldId) (mid after : List Late) → PackagesStand c ps → turn ≡ (id, w) ∷ rest → PackagesAdded h c d ps turn before mid
-      → Grows d e → AddsLate d e mid after (written_inside (package_in h d id w)) → PackagesAdded h c e ps rest before after
+      → Grows d e → AddsLate d e mid after (written_package (package_in h d id w)) → PackagesAdded h c e ps rest before after
   packages_next d e turn rest id w mid after stand steps r g adds = record {
     grows = Grows-trans c d e r.grows g;
     done = r.done ++ (id, w) ∷ [];
@@ -181,8 +184,8 @@ module _ (h : Graph) (c : Collection) (ps : List (PackageId × WorldId)) (before
         (adds_then c d e before mid after _ _ r.adds adds);
   }
 
-  pub packages_all : (d : Collection) (turn : List (PackageId × WorldId)) (after : List Late) → turn ≡ [] → PackagesAdded h c d ps turn before after → AddsLate c d before after (flat_map written_inside (packages_in h c ps))
-  packages_all d turn after e r = adds_as c d before after _ _ (ap (λ l. flat_map written_inside (packages_in h c l)) (sym (append-nil r.done) ∙ ap (λ l. r.done ++ l) (sym e) ∙ r.all)) r.adds
+  pub packages_all : (d : Collection) (turn : List (PackageId × WorldId)) (after : List Late) → turn ≡ [] → PackagesAdded h c d ps turn before after → AddsLate c d before after (flat_map written_package (packages_in h c ps))
+  packages_all d turn after e r = adds_as c d before after _ _ (ap (λ l. flat_map written_package (packages_in h c l)) (sym (append-nil r.done) ∙ ap (λ l. r.done ++ l) (sym e) ∙ r.all)) r.adds
 
 -- ---- what stays as the collection grows
 

@@ -7,10 +7,10 @@ use Rattle.wac_types_base.specs.declared.ids.WorldId.{WorldId}
 use Rattle.wac_types_base.specs.declared.item.ItemKind.{ItemKind}
 use Rattle.wac_types_base.specs.declared.item.«Type».{«Type» as TypeKind}
 use Rattle.wac_types_base.specs.Record.{Collection}
-use Rattle.wac_types_base.specs.Entries.{Name, value_at, has_name, put_name}
+use Rattle.wac_types_base.specs.Entries.{Name, value_at, has_name, put_name, names_of}
 use Rattle.wac_types_base.specs.Graph.{Among}
 use Rattle.wac_types_base.specs.Collection.{Stands, IsAcyclic, Grows}
-use Rattle.wac_types_base.specs.Stated.{Stated, stated_of, kind_of}
+use Rattle.wac_types_base.specs.Stated.{Stated, stated_of, kind_of, exports_of, imports_of as stated_imports}
 use Rattle.wac_types_base.proofs.Lists.{among_last}
 use Rattle.wac_types_base.proofs.Loops.{mapped_next}
 use Rattle.wac_types_base.proofs.Looked.{take-one_more}
@@ -19,13 +19,13 @@ use Rattle.wac_types_base.proofs.Stating.{stated_kept}
 use Rattle.wac_types_base.proofs.Telling.{item_kind, kind_stated}
 use Rattle.wac_types_written.specs.Forms.{IsOf, ItemsStand, stated_items}
 use Rattle.wac_types_written.proofs.Growing.{items_kept}
-use Rattle.wac_types_written.proofs.Ids.{world_imports_stand}
+use Rattle.wac_types_written.proofs.Ids.{world_imports_stand, world_exports_stand}
 use Rattle.wac_composition.specs.Writable.{has_items}
-use Rattle.wac_composition.specs.Circles.{beside, interfaces_in, stands_in, under, written_from, written_names}
-use Rattle.wac_graph_scopes.specs.Parts.{imports_of}
-use Rattle.wac_graph_scopes.proofs.PartLaws.{imports_there, imports_missing}
+use Rattle.wac_composition.specs.Circles.{beside, interfaces_in, stands_in, under, written_from, written_names, exports_written}
+use Rattle.wac_graph_scopes.specs.Parts.{imports_of, world_exports_of}
+use Rattle.wac_graph_scopes.proofs.PartLaws.{imports_there, imports_missing, world_exports_there, world_exports_missing}
 use Rattle.wac_writable.proofs.HolderLaws.{has_put}
-use Rattle.wac_writable.proofs.PartsStated.{stands_or_not}
+use Rattle.wac_writable.proofs.PartsStated.{stands_or_not, imports_are, world_exports_are}
 use Rattle.wac_graph_causes.specs.declared.late.Late.{Late}
 use Rattle.wac_graph_causes.specs.declared.standing.Standing.{Standing}
 use Rattle.wac_graph_causes.specs.Late.{AddsLate, AreLate, interface_items, is_interface_item, late_in, world_written, written_after, written_beside}
@@ -79,10 +79,32 @@ module _ (c : Collection) (a : IsAcyclic c) where
 
   -- what is added in the order in which the interfaces of a world are written
   pub world_added : (es : List (Name × Name)) (w : WorldId) (xs : List (Name × ItemKind)) (order : List Name) → xs ≡ interface_items (imports_of c w)
-      → order ≡ written_names (spelled_in es) (stated_items c xs) → written_after c es xs order ≡ world_written c es w
+      → order ≡ written_names (spelled_in es) (stated_items c xs) → written_after c es xs [] order ≡ world_written c es w
   world_added es w xs order e o =
       ap (written_from (spelled_in es) (stated_items c xs) []) o
       ∙ ap (λ is. written_from (spelled_in es) is [] (written_names (spelled_in es) is)) (ap (stated_items c) e ∙ sym (interfaces_are (imports_of c w) (imports_stand w)))
+
+  pub exports_stand : (w : WorldId) → ItemsStand c (world_exports_of c w)
+  exports_stand w = elim (stands_or_not c (ItemKind.Component w)) [
+    | inl s ↦ let v = world_found c w s in subst (ItemsStand c) (sym (world_exports_there c w v.value v.at v.own)) (world_exports_stand c a w v.value v.at v.own)
+    | inr n ↦ subst (ItemsStand c) (sym (world_exports_missing c w n)) (λ x m. absurd m)
+  ]
+
+  pub exported_stand : (w : WorldId) (xs : List (Name × ItemKind)) → xs ≡ interface_items (world_exports_of c w) → ItemsStand c xs
+  exported_stand w xs e x m = exports_stand w x (among_filtered (world_exports_of c w) x (subst (Among x) e m))
+
+  named_items : (xs : List (Name × ItemKind)) → names_of (stated_items c xs) ≡ names_of xs
+  named_items [] = refl
+  named_items (x ∷ xs) = ap (λ l. x.0 ∷ l) (named_items xs)
+
+  -- what is added in the order in which the exports of a package are written
+  pub exports_added : (w : WorldId) (xs : List (Name × ItemKind)) (names order : List Name) → xs ≡ interface_items (world_exports_of c w) → names ≡ names_of (imports_of c w)
+      → order ≡ written_names (spelled_in []) (stated_items c xs) → written_after c [] xs names order ≡ exports_written (stated_of c (ItemKind.Component w))
+  exports_added w xs names order e n o =
+      let es : stated_items c xs ≡ interfaces_in (exports_of (stated_of c (ItemKind.Component w))) = ap (stated_items c) e ∙ sym (interfaces_are (world_exports_of c w) (exports_stand w)) ∙ ap interfaces_in (sym (world_exports_are c a w)) in
+      let is : names ≡ names_of (stated_imports (stated_of c (ItemKind.Component w))) = n ∙ sym (named_items (imports_of c w)) ∙ ap names_of (sym (imports_are c a w)) in
+      ap (written_from (spelled_in []) (stated_items c xs) names) o
+      ∙ (λ i. written_from (λ n. n) (es i) (is i) (written_names (λ n. n) (es i)))
 
 -- ---- what is held
 
@@ -123,21 +145,22 @@ module _ (spell : Name → Name) (imports : List (Name × Stated)) where
       ∙ ap (λ l. (written_at ns y ++ written_from spell imports (ns ++ y ∷ []) xs) ++ written_at l x) (append_assoc ns (y ∷ []) xs)
 
 module _ (c d : Collection) (g : Grows c d) (es : List (Name × Name)) (xs : List (Name × ItemKind)) (stand : ItemsStand c xs) (s : Standing) (own : s.spelled.now ≡ es) (order : List Name) (i : ℕ) (x : Name) (at : slice_get order i ≡ Some x)
-    (known : (n : Name) → has_name s.names.now n ≡ has_name (take i order) n) where
+    (before : List Name) (known : (n : Name) → has_name s.names.now n ≡ has_name (before ++ take i order) n) where
   -- the next is written beside those before it
-  pub written_next : written_beside d s xs x ≡ written_at (spelled_in es) (stated_items c xs) (take i order) x
+  pub written_next : written_beside d s xs x ≡ written_at (spelled_in es) (stated_items c xs) (before ++ take i order) x
   written_next =
       (λ j. under (spelled_in (own j)) [] x (option_map (beside (λ n. has_name s.names.now (spelled_in (own j) n))) (value_at (items_kept c d g xs stand j) x)))
       ∙ (λ j. under (spelled_in es) [] x (option_map (beside (λ n. known (spelled_in es n) j)) (value_at (stated_items c xs) x)))
 
-  pub written_more : written_after c es xs (take i order) ++ written_beside d s xs x ≡ written_after c es xs (take (i + 1) order)
+  pub written_more : written_after c es xs before (take i order) ++ written_beside d s xs x ≡ written_after c es xs before (take (i + 1) order)
   written_more =
-      ap (λ l. written_after c es xs (take i order) ++ l) written_next
-      ∙ sym (from_last (spelled_in es) (stated_items c xs) [] (take i order) x)
-      ∙ ap (written_after c es xs) (sym (take-one_more order i x at))
+      ap (λ l. written_after c es xs before (take i order) ++ l) written_next
+      ∙ sym (from_last (spelled_in es) (stated_items c xs) before (take i order) x)
+      ∙ ap (written_after c es xs before) (sym (take-one_more order i x at))
 
 -- the names that stand, with one more
-pub standing_more : (order : List Name) (i : ℕ) (x : Name) → slice_get order i ≡ Some x → (old new : List Name) → new ≡ put_name old x → ((n : Name) → has_name old n ≡ has_name (take i order) n) → (n : Name) → has_name new n ≡ has_name (take (i + 1) order) n
-standing_more order i x at old new e h n =
+pub standing_more : (before order : List Name) (i : ℕ) (x : Name) → slice_get order i ≡ Some x → (old new : List Name) → new ≡ put_name old x → ((n : Name) → has_name old n ≡ has_name (before ++ take i order) n)
+    → (n : Name) → has_name new n ≡ has_name (before ++ take (i + 1) order) n
+standing_more before order i x at old new e h n =
     ap (λ l. has_name l n) e ∙ has_put old x n ∙ ap (λ b. b || pointwise ◌==◌ n x) (h n)
-    ∙ sym (has_last (take i order) x n) ∙ ap (λ l. has_name l n) (sym (take-one_more order i x at))
+    ∙ sym (has_last (before ++ take i order) x n) ∙ ap (λ l. has_name l n) (append_assoc before (take i order) (x ∷ []) ∙ ap (λ l. before ++ l) (sym (take-one_more order i x at)))

@@ -14,7 +14,7 @@ use Rattle.wac_graph_core.specs.declared.ids.PackageId.{PackageId}
 use Rattle.wac_graph_core.specs.Graph.{Graph}
 use Rattle.wac_composition.specs.Asks.{Ask}
 use Rattle.wac_composition.specs.Classes.{spelling}
-use Rattle.wac_composition.specs.Circles.{written_inside, written_whole}
+use Rattle.wac_composition.specs.Circles.{written_whole, written_package}
 use Rattle.wac_composition.specs.Conflicts.{Cause, late_unwritable, outers_written}
 use Rattle.wac_graph_scopes.specs.Parts.{imports_of}
 use Rattle.wac_writable.specs.declared.writable.Test.{Test}
@@ -72,7 +72,7 @@ module _ (define : Bool) (g : Graph) where
     pub outers : (asks : List (Ask ℕ)) → AreOuters asks old o.world o.called.items
         → AreLate new all.outers.items (held_outers asks old o.world)
     pub definitions : AreLate new all.definitions.items (flat_map written_whole (forms_in old ds))
-    pub packages : AreLate new all.packages.items (flat_map written_inside (imported_packages define g old ps))
+    pub packages : AreLate new all.packages.items (flat_map written_package (imported_packages define g old ps))
 
 -- ---- what is told
 
@@ -126,7 +126,7 @@ module _ (define : Bool) (g : Graph) (c : Collection) (o : Outers) (ps : List (P
   abbrev pub held_circle : List (Ask ℕ) → Option (Cause ℕ)
   held_circle asks =
       first_late (held_outers asks c o.world) (flat_map written_whole (forms_in c ds))
-      (flat_map written_inside (imported_packages define g c ps))
+      (flat_map written_package (imported_packages define g c ps))
 
   -- so it is of all asks whose outer imports these are
   abbrev pub IfOuters : (List (Ask ℕ) → Type 0) → Type 0

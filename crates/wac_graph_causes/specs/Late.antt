@@ -43,9 +43,10 @@ AddsLate old new before after more = (es : List (Name × Stated)) → AreLate ol
 abbrev pub written_beside : Collection → Standing → List (Name × ItemKind) → Name → List (Name × Stated)
 written_beside c s xs n = under (spelled_in s.spelled.now) [] n (option_map (beside (stands_by s)) (value_at (stated_items c xs) n))
 
--- imports of these names one after another
-abbrev pub written_after : Collection → List (Name × Name) → List (Name × ItemKind) → List Name → List (Name × Stated)
-written_after c es xs ns = written_from (spelled_in es) (stated_items c xs) [] ns
+-- interfaces of these names one after another, where some stand already
+abbrev pub written_after : Collection → List (Name × Name) → List (Name × ItemKind) → (standing names : List Name)
+    → List (Name × Stated)
+written_after c es xs before ns = written_from (spelled_in es) (stated_items c xs) before ns
 
 -- the interfaces that a world imports, each as it is written
 abbrev pub world_written : Collection → List (Name × Name) → WorldId → List (Name × Stated)

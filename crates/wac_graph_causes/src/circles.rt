@@ -2,10 +2,11 @@
 
 ghost use Rattle.std.specs.Prelude.{◌≡◌, ◌∷◌, [], ◌++◌, map, IfOk, IfErr, IfSome, OnOk};
 ghost use Rattle.std.specs.List.{flat_map};
+ghost use Rattle.wac_types_base.specs.declared.item.ItemKind.{ItemKind};
 ghost use Rattle.wac_types_base.specs.Collection.{Grows, Stands};
 ghost use Rattle.wac_types_base.specs.Stated.{stated_of};
 ghost use Rattle.wac_types_written.specs.Forms.{ItemsStand, stated_items};
-ghost use Rattle.wac_composition.specs.Circles.{written_inside, written_whole};
+ghost use Rattle.wac_composition.specs.Circles.{exports_written, written_inside, written_whole, written_package};
 ghost use Rattle.wac_graph_scopes.specs.Parts.{imports_of};
 ghost use Rattle.wac_writable.specs.Unnamed.{KnowsAll};
 ghost use Rattle.wac_graph_asks.specs.AskedUses.{CopiesStand};
@@ -16,7 +17,7 @@ ghost use Rattle.wac_graph_causes.specs.Circling.{TellsLate, TellsLateAt, TellsH
 
 use crate::errors::Unwritten;
 use crate::inside::worlds_in;
-use crate::late::{Late, add_world};
+use crate::late::{Late, add_exports, add_world};
 use crate::names::dependency_name;
 use crate::order::text_of;
 use crate::spelling::names_called;
@@ -214,7 +215,25 @@ fn add_forms(
     Ok(())
 }
 
-/// Adds those that stand in the world of a package, under the name by which it is imported.
+/// Adds the interfaces that a package's world exports, each as it is written, under this name.
+fn add_exported(
+    types: &mut Types,
+    alloc: Global,
+    name: &str,
+    world: WorldId,
+    all: &mut Vec<Late>,
+) -> Result<(), AllocError>
+    ensures adds { OnOk result (Stands types.old (ItemKind.Component world)
+        → AddsLate types.old types.new all.old.items all.new.items
+        (map (λ x. (name.now, x.1)) (exports_written (stated_of types.old (ItemKind.Component world))))) }
+    ensures grows { Grows types.old types.new }
+{
+    let mut own = Vec::new(alloc);
+    add_exports(types, alloc, world, &mut own)?;
+    add_under(alloc, name, &own, all)
+}
+
+/// Adds those that stand in the world of a package, and those that it exports, under the name by which it is imported.
 fn add_package(
     types: &mut Types,
     graph: &CompositionGraph,
@@ -222,14 +241,16 @@ fn add_package(
     world: WorldId,
     all: &mut Vec<Late>,
 ) -> Result<(), AllocError>
+    requires { Stands types.old (ItemKind.Component world) }
     ensures adds { OnOk result (AddsLate types.old types.new all.old.items all.new.items
-        (written_inside (package_in graph.now types.old id world))) }
+        (written_package (package_in graph.now types.old id world))) }
     ensures grows { Grows types.old types.new }
 {
     types.see_acyclic();
     let alloc = graph.alloc();
     let name = dependency_name(alloc, graph, id)?;
-    add_inside(types, alloc, name.as_str(), ItemKind::Component(world), all)
+    add_inside(types, alloc, name.as_str(), ItemKind::Component(world), all)?;
+    add_exported(types, alloc, name.as_str(), world, all)
 }
 
 /// Adds those that stand in the worlds of packages.
@@ -241,7 +262,7 @@ fn add_packages(
 ) -> Result<(), AllocError>
     requires { PackagesStand types.old packages.now.entries }
     ensures adds { OnOk result (AddsLate types.old types.new all.old.items all.new.items
-        (flat_map written_inside (packages_in graph.now types.old packages.now.entries))) }
+        (flat_map written_package (packages_in graph.now types.old packages.now.entries))) }
     ensures grows { Grows types.old types.new }
 {
     types.see_acyclic();
@@ -268,7 +289,7 @@ fn written_packages(
 ) -> Result<Vec<Late>, AllocError>
     requires { PackagesStand types.old packages.now.entries }
     ensures late { IfOk result (λ v. AreLate types.new v.items
-        (flat_map written_inside (imported_packages define_components graph.now types.old packages.now.entries))) }
+        (flat_map written_package (imported_packages define_components graph.now types.old packages.now.entries))) }
     ensures grows { Grows types.old types.new }
 {
     types.see_acyclic();

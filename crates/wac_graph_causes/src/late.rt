@@ -1,11 +1,13 @@
 //! Imported interfaces as they are written: each beside those before it, with the uses of these alone.
 
-ghost use Rattle.std.specs.Prelude.{◌≡◌, ◌∷◌, [], ◌++◌, IfOk, OnOk};
-ghost use Rattle.wac_types_base.specs.Entries.{IsNew, put_name};
-ghost use Rattle.wac_types_base.specs.Collection.{Grows};
+ghost use Rattle.std.specs.Prelude.{◌≡◌, ◌<◌, ◌+◌, ◌∷◌, [], ◌++◌, length, take, IfOk, OnOk};
+ghost use Rattle.wac_types_base.specs.declared.item.ItemKind.{ItemKind};
+ghost use Rattle.wac_types_base.specs.Entries.{AreDistinct, IsNew, names_of, put_name};
+ghost use Rattle.wac_types_base.specs.Collection.{Grows, Stands};
+ghost use Rattle.wac_types_base.specs.Stated.{stated_of};
 ghost use Rattle.wac_types_written.specs.Forms.{ItemsStand, stated_items};
-ghost use Rattle.wac_graph_scopes.specs.Parts.{imports_of};
-ghost use Rattle.wac_composition.specs.Circles.{written_names};
+ghost use Rattle.wac_graph_scopes.specs.Parts.{imports_of, world_exports_of};
+ghost use Rattle.wac_composition.specs.Circles.{exports_written, written_names};
 ghost use Rattle.wac_graph_causes.specs.Late.{AddsLate, AreLate, interface_items, is_interface_item};
 ghost use Rattle.wac_graph_causes.specs.Late.{world_written, written_after, written_beside};
 ghost use Rattle.wac_graph_causes.specs.Standing.{spelled_in};
@@ -14,6 +16,7 @@ use crate::beside::beside;
 use crate::order::{Sources, text_of, written_names};
 use crate::standing::Standing;
 use std::alloc::{AllocError, Global};
+use wac_graph_scopes::parts::{import_at, import_count};
 use wac_types_base::{ItemKind, NamedMap, Names, Text, Type, Types, WorldId};
 
 /// An interface as it is written, under the name that is told where it cannot be.
@@ -116,29 +119,29 @@ fn add_standing(alloc: Global, names: &mut Names, name: &str) -> Result<(), Allo
     Ok(())
 }
 
-/// Adds imports one after another, each as it is written beside those before it.
+/// Adds interfaces one after another, each as it is written beside those before it and those that stand already.
 fn add_in_order(
     types: &mut Types,
     alloc: Global,
     spelled: &NamedMap<Text>,
     interfaces: &NamedMap<ItemKind>,
     order: &[Text],
+    names: &mut Names,
     all: &mut Vec<Late>,
 ) -> Result<(), AllocError>
     requires { ItemsStand types.old interfaces.now }
     ensures adds { OnOk result (AddsLate types.old types.new all.old.items all.new.items
-        (written_after types.old spelled.now interfaces.now order.now)) }
+        (written_after types.old spelled.now interfaces.now names.old order.now)) }
     ensures grows { Grows types.old types.new }
 {
     types.see_acyclic();
-    let mut names = Names::new(alloc);
     for name in order {
         let standing = Standing {
             spelled,
-            names: &names,
+            names: &*names,
         };
         add_written(types, alloc, standing, interfaces, name.as_str(), all)?;
-        add_standing(alloc, &mut names, name.as_str())?;
+        add_standing(alloc, names, name.as_str())?;
     }
     Ok(())
 }
@@ -176,5 +179,72 @@ pub(crate) fn add_world(
     types.see_acyclic();
     let interfaces = imported_interfaces(alloc, types, world)?;
     let order = order_of(alloc, types, spelled, &interfaces)?;
-    add_in_order(types, alloc, spelled, &interfaces, &order, all)
+    let mut names = Names::new(alloc);
+    add_in_order(types, alloc, spelled, &interfaces, &order, &mut names, all)
+}
+
+// ---- exports
+
+/// The interfaces that a world exports.
+fn exported_interfaces(
+    alloc: Global,
+    types: &Types,
+    world: WorldId,
+) -> Result<NamedMap<ItemKind>, AllocError>
+    ensures { IfOk result (λ m. m ≡ interface_items (world_exports_of types.now world)) }
+{
+    if !types.has(ItemKind::Component(world)) {
+        return Ok(NamedMap::new(alloc));
+    }
+    interfaces_of(alloc, &types.world(world).exports)
+}
+
+/// Adds the name of the import at a place.
+fn add_import_name(
+    alloc: Global,
+    types: &Types,
+    world: WorldId,
+    at: usize,
+    names: &mut Names,
+) -> Result<(), AllocError>
+    requires distinct { AreDistinct (names_of (imports_of types.now world)) }
+    requires before { names.old ≡ take at (names_of (imports_of types.now world)) }
+    requires within { at < length (imports_of types.now world) }
+    ensures { OnOk result (names.new ≡ take (at + 1) (names_of (imports_of types.now world))) }
+{
+    match import_at(types, world, at) {
+        Some(import) => add_standing(alloc, names, import.name),
+        None => Ok(()),
+    }
+}
+
+/// The names of a world's imports.
+fn import_names(alloc: Global, types: &Types, world: WorldId) -> Result<Names, AllocError>
+    ensures { IfOk result (λ ns. ns ≡ names_of (imports_of types.now world)) }
+{
+    let mut names = Names::new(alloc);
+    for at in 0..import_count(types, world) {
+        add_import_name(alloc, types, world, at, &mut names)?;
+    }
+    Ok(names)
+}
+
+/// Adds the interfaces that a package's world exports, each as it is written beside its imports.
+pub(crate) fn add_exports(
+    types: &mut Types,
+    alloc: Global,
+    world: WorldId,
+    all: &mut Vec<Late>,
+) -> Result<(), AllocError>
+    ensures adds { OnOk result (Stands types.old (ItemKind.Component world)
+        → AddsLate types.old types.new all.old.items all.new.items
+        (exports_written (stated_of types.old (ItemKind.Component world)))) }
+    ensures grows { Grows types.old types.new }
+{
+    types.see_acyclic();
+    let none = NamedMap::new(alloc);
+    let interfaces = exported_interfaces(alloc, types, world)?;
+    let mut names = import_names(alloc, types, world)?;
+    let order = order_of(alloc, types, &none, &interfaces)?;
+    add_in_order(types, alloc, &none, &interfaces, &order, &mut names, all)
 }

@@ -14,7 +14,7 @@ use Rattle.wac_types_written.specs.Written.{written_definition}
 use Rattle.wac_graph_core.specs.declared.ids.PackageId.{PackageId}
 use Rattle.wac_graph_core.specs.Graph.{Graph, IsGraph, package_of}
 use Rattle.wac_composition.specs.Asks.{asks_of}
-use Rattle.wac_composition.specs.Circles.{written_inside, written_whole}
+use Rattle.wac_composition.specs.Circles.{written_inside, written_whole, written_package}
 use Rattle.wac_composition.specs.Classes.{spelling}
 use Rattle.wac_composition.specs.Conflicts.{dependencies_of, is_whole, outers_written, whole_forms}
 use Rattle.wac_graph_asks.specs.declared.asks.Asked.{Asked}
@@ -94,7 +94,7 @@ module _ (g : Graph) (sound : IsGraph g) (acyclic : IsAcyclic g.types) (a : Aske
     held_is : held_circle options.define_components g c o a.packages.entries ds (asks_of (composition_of g)) ≡ waiting_cause options g
     held_is =
         let definitions = ap (flat_map written_whole) (forms_are g acyclic c a.definitions.items ds formed ∙ ap whole_forms h.definitions) in
-        λ i. first_late (outers_written (spelling (asks_of (composition_of g))) (held.imports i)) (definitions i) (flat_map written_inside (unless_defined options.define_components i))
+        λ i. first_late (outers_written (spelling (asks_of (composition_of g))) (held.imports i)) (definitions i) (flat_map written_package (unless_defined options.define_components i))
 
     pub waits_not : CirclesPass options.define_components g c o a.packages.entries ds → waiting_cause options g ≡ None
     waits_not pass = sym held_is ∙ pass (asks_of (composition_of g)) held

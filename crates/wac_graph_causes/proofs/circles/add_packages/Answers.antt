@@ -1,10 +1,14 @@
 use Rattle.std.proofs.Common.{◌∙◌}
-use Rattle.wac_graph_causes.proofs.CircleLaws.{packages_all, packages_begin, packages_next}
+use Rattle.wac_graph_causes.proofs.CircleLaws.{package_stands, packages_all, packages_begin, packages_next}
 use Rattle.wac_graph_causes.proofs.circles.add_packages.Goals as goal
 
 pub loop-id-init : goal.loop-id-init
 loop-id-init c =
     packages_begin c.args.graph.now c.args.types.now c.args.packages.now.entries c.args.all.now.items c.see_acyclic.ensures c.into_iter-id-iterator.result (c.into_iter-id-iterator.ensures.into_iter_gives ∙ c.iter-id-items.ensures.rest)
+
+pub add_package-requires : goal.add_package-requires
+add_package-requires c =
+    package_stands c.args.graph.now c.args.types.now c.args.packages.now.entries c.args.all.now.items c.loop-id.types c.loop-id.id-iterator c.next.new.self c.in-Some.id.now c.in-Some.world.now c.loop-id.all.items c.requires c.in-Some.ensures.steps c.loop-id.invariant
 
 pub loop-id-preserved : goal.loop-id-preserved
 loop-id-preserved c =

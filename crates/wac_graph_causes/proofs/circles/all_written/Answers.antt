@@ -1,7 +1,7 @@
 use Rattle.std.specs.List.{flat_map}
 use Rattle.std.proofs.Common.{subst}
 use Rattle.wac_types_base.proofs.Adding.{Grows-trans}
-use Rattle.wac_composition.specs.Circles.{written_inside, written_whole}
+use Rattle.wac_composition.specs.Circles.{written_whole, written_package}
 use Rattle.wac_graph_causes.specs.Late.{AreLate}
 use Rattle.wac_graph_causes.proofs.CircleLaws.{forms_kept, own_late, unless_kept}
 use Rattle.wac_graph_causes.proofs.LateLaws.{late_kept}
@@ -21,6 +21,6 @@ returns-clause-written c =
       definitions = late_kept two new third c.add_forms.new.all.items _
           (subst (λ xs. AreLate two c.add_forms.new.all.items (flat_map written_whole xs)) (forms_kept old one first c.args.definitions.now c.requires.copies)
           (own_late one two c.add_forms.new.all.items c.new-2.result.items _ c.new-2.ensures.items c.in_ok-add_forms.ensures.adds));
-      packages = subst (λ xs. AreLate new c.in_ok-all.field-0.items (flat_map written_inside xs))
+      packages = subst (λ xs. AreLate new c.in_ok-all.field-0.items (flat_map written_package xs))
           (unless_kept old two (Grows-trans old one two first second) c.args.define_components c.args.graph.now c.args.packages.now.entries c.requires.packages) c.in_ok-all.ensures.late;
     }

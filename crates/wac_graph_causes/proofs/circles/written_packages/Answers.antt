@@ -3,7 +3,7 @@ use Rattle.std.proofs.Common.{Bool, List, [], sym, ap, subst, ◌∙◌}
 use Rattle.wac_types_base.specs.Record.{Collection}
 use Rattle.wac_types_base.specs.Entries.{Name}
 use Rattle.wac_types_base.specs.Stated.{Stated}
-use Rattle.wac_composition.specs.Circles.{written_inside}
+use Rattle.wac_composition.specs.Circles.{written_package}
 use Rattle.wac_graph_causes.specs.declared.late.Late.{Late}
 use Rattle.wac_graph_causes.specs.Circling.{packages_in, imported_packages}
 use Rattle.wac_graph_causes.specs.Late.{AreLate}
@@ -15,8 +15,8 @@ pub returns-clause-late : goal.returns-clause-late
 returns-clause-late c =
     let old = c.args.types.now in
     let ps = c.args.packages.now.entries in
-    let held : Bool → List (Name × Stated) = λ d. flat_map written_inside (imported_packages d c.args.graph.now old ps) in
-    let all = flat_map written_inside (packages_in c.args.graph.now old ps) in
+    let held : Bool → List (Name × Stated) = λ d. flat_map written_package (imported_packages d c.args.graph.now old ps) in
+    let all = flat_map written_package (packages_in c.args.graph.now old ps) in
     elim c.if-not-define_components.branch [
       | then-not-define_components+in_ok-add_packages w ↦
           let new = w.add_packages.new.types in

@@ -1,4 +1,5 @@
 use Rattle.std.proofs.Common.{◌+◌, Some, take, refl, sym, ap, ◌∙◌}
+use Rattle.std.proofs.lemmas.List.{append-nil}
 use Rattle.wac_types_base.specs.Entries.{has_name, put_name}
 use Rattle.wac_types_base.proofs.Adding.{Grows-refl, Grows-trans}
 use Rattle.wac_types_base.proofs.Loops.{get-place, take-all}
@@ -12,7 +13,7 @@ pub loop-name-init : goal.loop-name-init
 loop-name-init c = record {
   grows = Grows-refl c.args.types.now c.see_acyclic.ensures;
   adds = adds_nothing c.args.types.now c.args.types.now (Grows-refl c.args.types.now c.see_acyclic.ensures) c.args.all.now.items;
-  names = λ n. ap (λ l. has_name l n) c.new-names.ensures;
+  names = λ n. ap (λ l. has_name l n) (sym (append-nil c.args.names.now));
 }
 
 pub add_written-requires : goal.add_written-requires
@@ -34,13 +35,13 @@ loop-name-preserved c =
     let at = item ∙ ap Some (sym c.as_str.ensures) in
     record {
       grows = Grows-trans old mid new g c.in_ok-add_written.ensures.grows;
-      adds = adds_as old new c.args.all.now.items c.add_written.new.all.items _ (written_after old es xs (take (i + 1) order))
-          (written_more old mid g es xs c.requires st refl order i x at c.loop-name.invariant.names)
-          (adds_then old mid new c.args.all.now.items c.loop-name.all.items c.add_written.new.all.items (written_after old es xs (take i order)) _ c.loop-name.invariant.adds c.in_ok-add_written.ensures.adds);
-      names = standing_more order i c.name-item.result item c.loop-name.names c.add_standing.new.names (c.in_ok-add_standing.ensures ∙ ap (put_name c.loop-name.names) c.as_str-in-loop-name.ensures) c.loop-name.invariant.names;
+      adds = adds_as old new c.args.all.now.items c.add_written.new.all.items _ (written_after old es xs c.args.names.now (take (i + 1) order))
+          (written_more old mid g es xs c.requires st refl order i x at c.args.names.now c.loop-name.invariant.names)
+          (adds_then old mid new c.args.all.now.items c.loop-name.all.items c.add_written.new.all.items (written_after old es xs c.args.names.now (take i order)) _ c.loop-name.invariant.adds c.in_ok-add_written.ensures.adds);
+      names = standing_more c.args.names.now order i c.name-item.result item c.loop-name.names c.add_standing.new.names (c.in_ok-add_standing.ensures ∙ ap (put_name c.loop-name.names) c.as_str-in-loop-name.ensures) c.loop-name.invariant.names;
     }
 
 pub returns-clause-adds : goal.returns-clause-adds
 returns-clause-adds c =
     let d = c.args.types.now in
-    adds_as d c.loop-name.types c.args.all.now.items c.loop-name.all.items _ _ (ap (written_after d c.args.spelled.now c.args.interfaces.now) (take-all c.args.order.now c.loop-name.name-index c.loop-name-test.false)) c.loop-name.invariant.adds
+    adds_as d c.loop-name.types c.args.all.now.items c.loop-name.all.items _ _ (ap (written_after d c.args.spelled.now c.args.interfaces.now c.args.names.now) (take-all c.args.order.now c.loop-name.name-index c.loop-name-test.false)) c.loop-name.invariant.adds

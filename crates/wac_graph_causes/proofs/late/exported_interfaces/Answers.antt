@@ -1,0 +1,7 @@
+use Rattle.std.proofs.Common.{sym, ap, ◌∙◌}
+use Rattle.wac_graph_scopes.proofs.PartLaws.{world_exports_missing}
+use Rattle.wac_graph_causes.specs.Late.{interface_items}
+use Rattle.wac_graph_causes.proofs.late.exported_interfaces.Goals as goal
+
+pub returns-then-not-has : goal.returns-then-not-has
+returns-then-not-has c = c.new.ensures ∙ sym (ap interface_items (world_exports_missing c.args.types.now c.args.world (λ s. absurd (cc (c.if-not-has.ensures.1 s)))))
