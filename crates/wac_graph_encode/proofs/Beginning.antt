@@ -1,10 +1,11 @@
 -- The root is begun once packages are imported or nested behind types and outer imports.
+use Rattle.std.specs.List.{AllZip}
 use Rattle.std.specs.Prelude.{slice_get}
 use Rattle.std.proofs.Common.{◌≡◌, ℕ, true, false, List, [], Some, Result, Ok, Err, OnOk, refl, sym, ap, subst, ◌∙◌}
 use Rattle.wac_types_base.specs.declared.ids.WorldId.{WorldId}
 use Rattle.wac_types_base.specs.declared.item.ItemKind.{ItemKind}
 use Rattle.wac_types_base.specs.Record.{Collection}
-use Rattle.wac_types_base.specs.Entries.{Name, names_of}
+use Rattle.wac_types_base.specs.Entries.{AreDistinct, Name, names_of, value_at}
 use Rattle.wac_types_base.specs.Graph.{Among}
 use Rattle.wac_types_base.proofs.Looked.{among-get}
 use Rattle.wac_types_base.proofs.Loops.{map-get}
@@ -21,9 +22,13 @@ use Rattle.wac_graph_scopes.specs.Roots.{at_root}
 use Rattle.wac_graph_encode.specs.declared.root.Root.{Root}
 use Rattle.wac_graph_encode.specs.declared.root.Writing.{Writing}
 use Rattle.wac_graph_asks.specs.Outers.{IsOuters}
-use Rattle.wac_graph_encode.specs.Standing.{IsPackageAt, spelled}
+use Rattle.wac_graph_encode.specs.declared.declarations.Early.{Early}
+use Rattle.wac_graph_encode.specs.Standing.{IsExported, IsPackageAt, spelled}
 use Rattle.wac_graph_encode.specs.Ready.{AddsNames, ArePlacedAt}
-use Rattle.wac_graph_encode.specs.Rooting.{IsReadTo}
+use Rattle.wac_graph_encode.specs.Rooting.{IsReadTo, early_in}
+use Rattle.wac_graph_scopes.specs.Roots.{IsEarly}
+use Rattle.wac_graph_scopes.proofs.ScopeLaws.{Extends-refl}
+use Rattle.wac_graph_encode.proofs.EarlyExports.{early_sources, early_exports}
 use Rattle.wac_graph_encode.specs.Nesting.{NestsAll, NestsBehind}
 use Rattle.wac_graph_encode.specs.Beginning.{AreTold, IsBare, IsBegunWith, IsRooted, Begins, HoldsTaken}
 use Rattle.wac_graph_encode.specs.Importing.{ImportsBefore, with_packages}
@@ -34,52 +39,57 @@ use Rattle.wac_graph_encode.proofs.Importing.{begun_imported}
 use Rattle.wac_graph_encode.proofs.Rooting.{nothing_named, scope_reads}
 
 module _ (g : Graph) (w : Worlds) (ids : List PackageId) (told : AreTold true g w ids) (called : List Called) (i : Inside) (c : Collection) (world : WorldId) (mid new : Root) (empty : mid.packages.entries ≡ [])
-    (reads : IsReadTo w c world i mid) (rooted : IsRooted g w called i mid.nodes.entries mid.imports.items) (nests : NestsAll g ids mid new) where
+    (early : List (ℕ × Early)) (reads : IsReadTo w c world i early mid) (rooted : IsRooted g w called i mid.nodes.entries early mid.imports.items) (nests : NestsAll g ids mid new) where
   abbrev st : State
-  st = at_root i
+  st = at_root i reads.reads.listing
 
   abbrev next : State
   next = with_nested g ids st
 
   kept : (s : Sort) (j : ℕ) (m : Meaning) → slice_get (space s st.scope) j ≡ Some m → slice_get (space s next.scope) j ≡ Some m
-  kept = nested_keeps g ids mid new nests w st reads.reads
+  kept = nested_keeps g ids mid new nests w st reads.reads.reads
 
   held : (id : PackageId) (index : ℕ) → Among (id, index) new.packages.entries → IsPackageAt g w true next id index
-  held id index m = package_stands g ids mid new nests w st reads.reads reads.counts id index (told id) (λ n. absurd (subst (Among (id, index)) empty n)) m
+  held id index m = package_stands g ids mid new nests w st reads.reads.reads reads.counts id index (told id) (λ n. absurd (subst (Among (id, index)) empty n)) m
+
+  firsts : ((x : Name × ℕ) → Among x new.exported → value_at g.exports x.0 ≡ Some x.1) × AllZip (IsExported g w true []) new.exported reads.reads.listing
+  firsts = early_exports g w i i early (Extends-refl i.here) rooted.are_early true new.exported reads.reads.listing (subst (λ (xs : List (Name × ℕ)). AllZip (IsEarly (early_in early) i) xs reads.reads.listing) (sym nests.others.exported) reads.reads.are)
 
   pub begun : IsBegun true w i.imports called g new
   begun = record {
     written = record {
       state = next;
-      reads = nested_reads g ids mid new nests w st reads.reads;
-      counts = nested_counts g ids mid new nests w st reads.reads reads.counts;
+      reads = nested_reads g ids mid new nests w st reads.reads.reads;
+      counts = nested_counts g ids mid new nests w st reads.reads.reads reads.counts;
       imports = refl;
-      exports = refl;
+      firsts = record { once = subst (λ (xs : List (Name × ℕ)). AreDistinct (names_of xs)) (sym nests.others.exported) reads.once; there = firsts.0 };
+      exports = firsts.1;
       stated = refl;
       outers = λ n p e. absurd (cc e);
       packages = held;
       order = [];
       once = tt;
-      stand = λ k p m. stands_on g w st next [] [] kept (λ j a. a) (λ j a. refl) k p (rooted.nodes_stand k p (subst (λ ns. Among (k, p) ns.entries) nests.others.nodes m));
+      stand = λ k p m. stands_on g w (at_root i []) next [] [] kept (λ j a. a) (λ j a. refl) k p (rooted.nodes_stand k p (subst (λ ns. Among (k, p) ns.entries) nests.others.nodes m));
       noted = λ k m. absurd m;
       instances = tt;
     };
-    outers = λ one p m e. outer_on g w st next [] [] kept (λ j a. a) (λ j a. refl) one.name p
+    outers = λ one p m e. outer_on g w (at_root i []) next [] [] kept (λ j a. a) (λ j a. refl) one.name p
         (rooted.outers_stand one p m (subst (λ xs. slice_get xs.items one.at ≡ Some (Some p)) nests.others.imports e));
   }
 
 -- behind what is taken from a scope
 pub begun_nested : (x : Writing) (scope : ImportScope) (old new : Root) → x.options.now.define_components ≡ true → NestsBehind x.graph.now (names_of x.worlds.now.entries) scope old new
     → (w : Worlds) (world : WorldId) (imported : List Name) (called : List Called) (h : WritesWorld w x.all.types.now [] world scope imported []) → IsBare old
-    → AreTold x.options.now.define_components x.graph.now w (names_of x.worlds.now.entries) → IsRooted x.graph.now w called h.writing.inside old.nodes.entries scope.places.items → IsBegunWith x w h.writing.inside.imports called new
+    → AreTold x.options.now.define_components x.graph.now w (names_of x.worlds.now.entries) → IsRooted x.graph.now w called h.writing.inside old.nodes.entries old.early.entries scope.places.items → IsBegunWith x w h.writing.inside.imports called new
 begun_nested x scope old new define b w world imported called h bare told rooted =
     let g = x.graph.now in
     let c = x.all.types.now in
     let ids = names_of x.worlds.now.entries in
     let imports = h.writing.inside.imports in
     subst (λ d. IsBegun d w (with_packages d g c x.worlds.now.entries imports) called g new) (sym define)
-    (begun g w ids (subst (λ d. AreTold d g w ids) define told) called h.writing.inside c world b.taken new (ap (λ ps. ps.entries) b.takes.packages ∙ bare.1) (scope_reads scope old b.taken b.takes bare.0 w c world imported h)
-    (subst (λ xs. IsRooted g w called h.writing.inside b.taken.nodes.entries xs) (sym b.takes.imports) (subst (λ ns. IsRooted g w called h.writing.inside ns.entries scope.places.items) (sym b.takes.nodes) rooted)) b.nests)
+    (begun g w ids (subst (λ d. AreTold d g w ids) define told) called h.writing.inside c world b.taken new (ap (λ ps. ps.entries) b.takes.packages ∙ bare.1) old.early.entries
+    (scope_reads scope old b.taken b.takes bare.0 bare.2 w c world imported h (early_sources g w h.writing.inside h.writing.inside old.early.entries (Extends-refl h.writing.inside.here) rooted.are_early))
+    (subst (λ xs. IsRooted g w called h.writing.inside b.taken.nodes.entries old.early.entries xs) (sym b.takes.imports) (subst (λ ns. IsRooted g w called h.writing.inside ns.entries old.early.entries scope.places.items) (sym b.takes.nodes) rooted)) b.nests)
 
 pub begins_nested : {U E : Type 0} (x : Writing) (scope : ImportScope) (old new : Root) (r : Result U E) → x.options.now.define_components ≡ true → OnOk r (NestsBehind x.graph.now (names_of x.worlds.now.entries) scope old new) → Begins x scope old new r
 begins_nested x scope old new (Ok u) define n = λ w world imported called h bare worlds told rooted. begun_nested x scope old new define n w world imported called h bare told rooted
@@ -93,7 +103,7 @@ begins_imported x scope old new (Ok u) define b = λ w world imported called h b
     let ps = x.worlds.now.entries in
     let i = h.writing.inside in
     subst (λ d. IsBegun d w (with_packages d g c ps i.imports) called g new) (sym define)
-    (begun_imported g c ps worlds w (subst (λ d. AreTold d g w (names_of ps)) define told) called i (nothing_named i.exports h.writing.exports) scope h.writing.stands old new bare.0 bare.1 rooted b)
+    (begun_imported g c ps worlds w (subst (λ d. AreTold d g w (names_of ps)) define told) called i (nothing_named i.exports h.writing.exports) scope h.writing.stands old new bare.0 bare.1 bare.2 rooted b)
 begins_imported x scope old new (Err e) define b = λ w world imported called h bare worlds told rooted. tt
 
 -- ---- what is held

@@ -19,7 +19,8 @@ use Rattle.wac_graph_asks.specs.Asked.{HasCopy, IsHeld, KeepsAsked}
 use Rattle.wac_graph_asks.specs.AskedUses.{CopiesStand}
 use Rattle.wac_graph_asks.proofs.Asking.{copy_kept}
 use Rattle.wac_graph_encode.specs.Formed.{AreCopied, AreFormed, HasForm, IsFormOf, IsFormed, KeepsCopies}
-use Rattle.wac_graph_encode.proofs.StandingNumbers.{zip_more, zip_map}
+use Rattle.wac_graph_scopes.proofs.RootLaws.{zip_more}
+use Rattle.wac_graph_encode.proofs.StandingNumbers.{zip_map}
 
 -- ---- copies stand
 

@@ -1,4 +1,5 @@
 -- Packages that are imported at the root: their indexes stand for their imports, and what stood stands.
+use Rattle.std.specs.List.{AllZip}
 use Rattle.std.specs.Prelude.{slice_get}
 use Rattle.std.proofs.Common.{◌≡◌, ◌⊎◌, ℕ, false, List, [], ◌∷◌, ◌++◌, map, Some, inl, inr, refl, sym, ap, subst, ◌∙◌, append_assoc}
 use Rattle.std.proofs.lemmas.List.{map-append, append-nil}
@@ -26,18 +27,21 @@ use Rattle.wac_graph_scopes.specs.declared.imports.SortIndex.{SortIndex}
 use Rattle.wac_graph_scopes.specs.declared.items.ItemScope.{ItemScope}
 use Rattle.wac_graph_scopes.specs.Imports.{ImportsItem}
 use Rattle.wac_graph_scopes.specs.Items.{Describes, IsItemScope}
-use Rattle.wac_graph_scopes.specs.Roots.{at_root}
+use Rattle.wac_graph_scopes.specs.Roots.{at_root, HaveSources, IsEarly}
 use Rattle.wac_graph_scopes.proofs.ScopeLaws.{Extends-refl, Extends-trans}
 use Rattle.wac_graph_causes.specs.Alike.{dependency_of}
 use Rattle.wac_graph_causes.proofs.Dependencies.{name_is}
+use Rattle.wac_graph_encode.specs.declared.declarations.Early.{Early}
 use Rattle.wac_graph_encode.specs.declared.root.Root.{Root}
 use Rattle.wac_graph_encode.specs.Standing.{IsPackageAt}
 use Rattle.wac_graph_encode.specs.Writing.{IsBegun}
+use Rattle.wac_graph_encode.specs.Rooting.{early_in}
 use Rattle.wac_graph_encode.specs.Beginning.{AreTold, IsRooted}
 use Rattle.wac_graph_encode.specs.Importing.{AreWorldsOf, HasImported, HasImportedAll, ImportsBefore, IsImportedAt, NotesImport, Packages, dependency_import}
 use Rattle.wac_graph_encode.proofs.Entries.{same_package}
 use Rattle.wac_graph_encode.proofs.Nesting.{inserted_among}
-use Rattle.wac_graph_encode.proofs.Rooting.{scope_read}
+use Rattle.wac_graph_encode.proofs.Rooting.{IsReadAs, scope_read}
+use Rattle.wac_graph_encode.proofs.EarlyExports.{early_sources, early_exports}
 use Rattle.wac_graph_encode.proofs.StandingSteps.{stands_on, outer_on}
 
 -- ---- one more package
@@ -145,16 +149,25 @@ importing_all g c all rest old before new after e h none are w i s =
 -- ---- what is imported is read
 
 module _ (g : Graph) (c : Collection) (ps : Packages) (are : AreWorldsOf g c ps) (w : Worlds) (told : AreTold false g w (names_of ps)) (called : List Called) (i : Inside) (nothing : i.exports ≡ [])
-    (scope : ImportScope) (stands : IsItemScope w c [] i scope.scope) (old new : Root) (none : old.entries.items ≡ []) (empty : old.packages.entries ≡ [])
-    (rooted : IsRooted g w called i old.nodes.entries scope.places.items) (b : ImportsBefore g c ps scope old new) where
+    (scope : ImportScope) (stands : IsItemScope w c [] i scope.scope) (old new : Root) (none : old.entries.items ≡ []) (empty : old.packages.entries ≡ []) (unsaid : old.exported ≡ [])
+    (rooted : IsRooted g w called i old.nodes.entries old.early.entries scope.places.items) (b : ImportsBefore g c ps scope old new) where
   abbrev all : HasImportedAll w g c i ps b.between.scope b.mid.packages.entries
   all = b.imported empty are w i stands
 
   abbrev st : State
-  st = at_root i
+  st = at_root i []
+
+  early_is : b.mid.early.entries ≡ old.early.entries
+  early_is = ap (λ es. es.entries) b.early
+
+  sources : HaveSources (early_in b.mid.early.entries) all.after
+  sources = subst (λ (es : List (ℕ × Early)). HaveSources (early_in es) all.after) (sym early_is) (early_sources g w i all.after old.early.entries all.extends rooted.are_early)
+
+  read : IsReadAs w all.after b.mid.early.entries new
+  read = scope_read b.between b.mid new b.takes (ap (λ v. v.items) b.entries ∙ none) (b.exported ∙ unsaid) w c all.after all.stands (all.exports ∙ nothing) sources
 
   abbrev next : State
-  next = at_root all.after
+  next = at_root all.after read.0.listing
 
   kept : (s : Sort) (j : ℕ) (m : Meaning) → slice_get (space s st.scope) j ≡ Some m → slice_get (space s next.scope) j ≡ Some m
   kept s j m e = all.extends.indexes s j m e
@@ -175,20 +188,22 @@ module _ (g : Graph) (c : Collection) (ps : Packages) (are : AreWorldsOf g c ps)
 
   pub begun_imported : IsBegun false w (i.imports ++ map (dependency_import g c) ps) called g new
   begun_imported =
-      let read = scope_read b.between b.mid new b.takes (ap (λ v. v.items) b.entries ∙ none) w c all.after all.stands (all.exports ∙ nothing) in
+      let firsts = early_exports g w i all.after old.early.entries all.extends rooted.are_early false new.exported read.0.listing
+      (subst (λ (es : List (ℕ × Early)). AllZip (IsEarly (early_in es) all.after) new.exported read.0.listing) early_is read.0.are) in
       record {
         written = record {
           state = next;
-          reads = read.0;
+          reads = read.0.reads;
           counts = read.1;
           imports = all.imports;
-          exports = refl;
+          firsts = record { once = read.2; there = firsts.0 };
+          exports = firsts.1;
           stated = refl;
           outers = λ n p e. absurd (cc e);
           packages = held;
           order = [];
           once = tt;
-          stand = λ k p m. stands_on g w st next [] [] kept (λ j a. a) (λ j a. refl) k p (rooted.nodes_stand k p (subst (λ ns. Among (k, p) ns.entries) (b.takes.nodes ∙ b.nodes) m));
+          stand = λ k p m. stands_on g w (at_root i []) next [] [] kept (λ j a. a) (λ j a. refl) k p (rooted.nodes_stand k p (subst (λ ns. Among (k, p) ns.entries) (b.takes.nodes ∙ b.nodes) m));
           noted = λ k m. absurd m;
           instances = tt;
         };

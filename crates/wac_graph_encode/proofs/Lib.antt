@@ -16,13 +16,14 @@ pub mod Rearranging
 pub mod StandingExports
 pub mod Rooting
 pub mod Nesting
+pub mod FormKinds
+pub mod EarlyExports
 pub mod Importing
 pub mod Forming
 pub mod Told
 pub mod Finals
 pub mod Exported
 pub mod ItemSorts
-pub mod FormKinds
 pub mod RootedOuters
 pub mod RootedDefinitions
 pub mod Beginning

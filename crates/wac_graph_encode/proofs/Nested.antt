@@ -1,5 +1,5 @@
 -- What is nested in entries.
-use Rattle.std.specs.Prelude.{filter_map}
+use Rattle.std.specs.Prelude.{filter_map, option_to_list}
 use Rattle.std.specs.List.{AllZip, cons_option, list_any}
 use Rattle.std.proofs.Common.{◌≡◌, ℕ, Bool, true, false, true≢false, List, [], ◌∷◌, ◌++◌, map, Option, Some, None, IsSome, Result, Ok, Err, OnOk, ◌⊎◌, inl, inr, refl, sym, ap, subst, ◌∙◌, if◌then◌else◌}
 use Rattle.std.proofs.lemmas.Option.{none-some}
@@ -12,7 +12,7 @@ use Rattle.wac_types_base.proofs.Lists.{among_split, from_filtered}
 use Rattle.wac_types_names.specs.Packaged.{Packaged}
 use Rattle.wac_types_names.specs.Keys.{package_key}
 use Rattle.wac_graph_bytes.specs.declared.entry.Entry.{Entry as CodeEntry}
-use Rattle.wac_graph_bytes.specs.Entries.{Entry, Core, Nested, Instantiate, Aliased, Typed, Imported, Exported, Declarations, End, CoreThen, TypeThen, ComponentTypeThen, InstanceTypeThen, AliasThen, ImportThen, ExportThen, entries_of}
+use Rattle.wac_graph_bytes.specs.Entries.{Alias, ExportAlias, OuterAlias, Entry, Core, Nested, Instantiate, Aliased, Typed, Imported, Exported, Declarations, End, CoreThen, TypeThen, ComponentTypeThen, InstanceTypeThen, AliasThen, ImportThen, ExportThen, entries_of}
 use Rattle.wac_graph_bytes.specs.Views.{view, declarations_of}
 use Rattle.wac_graph_core.specs.declared.ids.PackageId.{PackageId}
 use Rattle.wac_graph_core.specs.contracts.ids.PackageIdPartialEq.TheImpl.{eq-value}
@@ -20,7 +20,7 @@ use Rattle.wac_graph_core.specs.Nodes.{NodeData}
 use Rattle.wac_graph_core.specs.Graph.{Graph, IsGraph, node_at, package_of, package_if, package_made, instantiated}
 use Rattle.wac_graph_scopes.specs.declared.imports.SortIndex.{SortIndex}
 use Rattle.wac_graph_scopes.specs.declared.imports.ImportScope.{ImportScope}
-use Rattle.wac_graph_scopes.specs.Roots.{root_entries}
+use Rattle.wac_graph_scopes.specs.Roots.{root_entries, alias_entry, alias_export}
 use Rattle.wac_graph_scopes.proofs.OrderLaws.{distinct-append}
 use Rattle.wac_composition.proofs.Closures.{any_among, among_any}
 use Rattle.wac_graph_asks.specs.Graphs.{nodes_of}
@@ -32,6 +32,7 @@ use Rattle.wac_graph_encode.specs.Encoding.{nested_in, nested_at, nested_strings
 use Rattle.wac_graph_encode.specs.declared.root.Writing.{Writing}
 use Rattle.wac_graph_encode.specs.Beginning.{NestsThese, nested_bytes}
 use Rattle.wac_graph_encode.specs.Importing.{ImportsBefore, Packages}
+use Rattle.wac_graph_encode.specs.Rooting.{early_in}
 use Rattle.wac_graph_encode.specs.Finished.{AreSpelled, NestsBytes}
 use Rattle.wac_graph_encode.specs.Nesting.{NestsBehind}
 use Rattle.wac_graph_encode.specs.Writing.{AddsEntry, AddsExports, IsExportOf}
@@ -49,15 +50,22 @@ nested_append (Typed t ∷ xs) ys = nested_append xs ys
 nested_append (Imported n d ∷ xs) ys = nested_append xs ys
 nested_append (Exported e ∷ xs) ys = nested_append xs ys
 
-none_declared : (ds : Declarations) → nested_in (root_entries ds) ≡ []
-none_declared End = refl
-none_declared (CoreThen ds rest) = none_declared rest
-none_declared (TypeThen t rest) = none_declared rest
-none_declared (ComponentTypeThen ds rest) = none_declared rest
-none_declared (InstanceTypeThen ds rest) = none_declared rest
-none_declared (AliasThen a rest) = none_declared rest
-none_declared (ImportThen n d rest) = none_declared rest
-none_declared (ExportThen n d rest) = none_declared rest
+alias_nests_none : (a : Alias) (o : Option (Name × ℕ)) (es : List Entry) → nested_in (alias_entry a o ∷ es) ≡ nested_in es
+alias_nests_none a None es = refl
+alias_nests_none (ExportAlias s k n) (Some x) es = refl
+alias_nests_none (OuterAlias s d k) (Some x) es = refl
+
+none_declared : (early : ℕ → Option (Name × ℕ)) (seen : List (Name × ℕ)) (ds : Declarations) → nested_in (root_entries early seen ds) ≡ []
+none_declared early seen End = refl
+none_declared early seen (CoreThen ds rest) = none_declared early seen rest
+none_declared early seen (TypeThen t rest) = none_declared early seen rest
+none_declared early seen (ComponentTypeThen ds rest) = none_declared early seen rest
+none_declared early seen (InstanceTypeThen ds rest) = none_declared early seen rest
+none_declared early seen (AliasThen a rest) =
+    let more = seen ++ option_to_list (alias_export early seen a) in
+    alias_nests_none a (alias_export early seen a) (root_entries early more rest) ∙ none_declared early more rest
+none_declared early seen (ImportThen n d rest) = none_declared early seen rest
+none_declared early seen (ExportThen n d rest) = none_declared early seen rest
 
 all_nested : (g : Graph) (ids : List PackageId) → nested_in (map (λ id. Nested (bytes_of g id)) ids) ≡ map (bytes_of g) ids
 all_nested g [] = refl
@@ -84,15 +92,16 @@ exports_nest_none nodes xs old new a =
 pub behind_nests : (g : Graph) (ids : List PackageId) (scope : ImportScope) (old new : Root) → old.entries.items ≡ [] → NestsBehind g ids scope old new → nested_at new.entries.items ≡ map (bytes_of g) ids
 behind_nests g ids scope old new empty b =
     ap nested_in b.nests.entries ∙ nested_append (map view b.taken.entries.items) (map (λ id. Nested (bytes_of g id)) ids)
-    ∙ ap (λ l. l ++ nested_in (map (λ id. Nested (bytes_of g id)) ids)) (ap nested_in (b.takes.entries ∙ ap (λ es. map view es ++ root_entries (declarations_of scope.scope.types.declarations.items)) empty)
-    ∙ none_declared (declarations_of scope.scope.types.declarations.items))
+    ∙ ap (λ l. l ++ nested_in (map (λ id. Nested (bytes_of g id)) ids)) (ap nested_in (b.takes.adds.entries ∙ ap (λ es. map view es ++ root_entries (early_in old.early.entries) old.exported (declarations_of scope.scope.types.declarations.items)) empty)
+    ∙ none_declared (early_in old.early.entries) old.exported (declarations_of scope.scope.types.declarations.items))
     ∙ all_nested g ids
 
 -- nothing is nested behind a scope in which the packages are imported
 imported_nests : (g : Graph) (c : Collection) (ps : Packages) (scope : ImportScope) (old new : Root) → old.entries.items ≡ [] → ImportsBefore g c ps scope old new → nested_at new.entries.items ≡ []
 imported_nests g c ps scope old new empty b =
     let ds = declarations_of b.between.scope.types.declarations.items in
-    ap nested_in (b.takes.entries ∙ ap (λ es. map view es.items ++ root_entries ds) b.entries ∙ ap (λ es. map view es ++ root_entries ds) empty) ∙ none_declared ds
+    let es = root_entries (early_in b.mid.early.entries) b.mid.exported ds in
+    ap nested_in (b.takes.adds.entries ∙ ap (λ xs. map view xs.items ++ es) b.entries ∙ ap (λ xs. map view xs ++ es) empty) ∙ none_declared (early_in b.mid.early.entries) b.mid.exported ds
 
 pub nests_nested : {U E : Type 0} (x : Writing) (scope : ImportScope) (old new : Root) (r : Result U E) → x.options.now.define_components ≡ true → OnOk r (NestsBehind x.graph.now (names_of x.worlds.now.entries) scope old new) → NestsThese x old new r
 nests_nested x scope old new (Ok u) define b = λ bare.

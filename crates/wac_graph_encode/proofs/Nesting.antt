@@ -49,7 +49,7 @@ nests_none g r = record {
   entries = sym (append-nil (map view r.entries.items));
   numbers = λ p. record { counts = λ s. if_none (same_sort s sort.Component) (counted r.counts s); packages = refl };
   held = λ n m. elim m [ inl there ↦ there | inr none ↦ absurd none ];
-  others = record { imports = refl; nodes = refl };
+  others = record { imports = refl; nodes = refl; exported = refl };
 }
 
 -- one more has the next index
@@ -81,7 +81,7 @@ nests_more g ids id old mid new h o =
         | inl there ↦ one n (inl (h.held n (inl there)))
         | inr k ↦ elim (Among-last ids id n k) [ inl a ↦ one n (inl (h.held n (inr a))) | inr e ↦ one n (inr (inl e)) ]
       ];
-      others = record { imports = o.others.imports ∙ h.others.imports; nodes = o.others.nodes ∙ h.others.nodes };
+      others = record { imports = o.others.imports ∙ h.others.imports; nodes = o.others.nodes ∙ h.others.nodes; exported = o.others.exported ∙ h.others.exported };
     }
   where
     one : AddsNames (id ∷ []) (names_of mid.packages.entries) (names_of new.packages.entries)

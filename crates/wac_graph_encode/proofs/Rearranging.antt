@@ -1,21 +1,26 @@
 -- Exports in another order.
-use Rattle.std.specs.Prelude.{option_to_list}
-use Rattle.std.proofs.Common.{◌≡◌, ◌∙◌, ℕ, zero, suc, List, [], ◌∷◌, ◌++◌, length, take, Option, Some, None, slice_get, refl, sym, ap, subst, inl, inr, append_assoc}
+use Rattle.std.specs.Prelude.{option_to_list, if◌then◌else◌, not, ◌==◌, ◌||◌, is_some}
+use Rattle.std.specs.Cmp.Lexicographic.{pointwise}
+use Rattle.std.proofs.Common.{◌≡◌, ◌∙◌, ℕ, zero, suc, Bool, true, false, List, [], ◌∷◌, ◌++◌, length, take, Option, Some, None, slice_get, refl, sym, ap, subst, inl, inr, append_assoc}
 use Rattle.std.specs.List.{AllZip}
-use Rattle.std.proofs.lemmas.List.{append-nil}
+use Rattle.std.proofs.lemmas.List.{append-nil, map-append}
+use Rattle.std.proofs.lemmas.Slice.Eq.{bytes_eq-Decides}
 use Rattle.std.proofs.lemmas.Option.{slice_get_within}
 use Rattle.wac_types_base.specs.Graph.{Among}
-use Rattle.wac_types_base.specs.Entries.{Name, names_of, value_at, AreDistinct}
+use Rattle.wac_types_base.specs.Entries.{Name, names_of, value_at, has_name, AreDistinct}
+use Rattle.wac_types_base.proofs.Lists.{not_among, value_none}
 use Rattle.wac_types_base.proofs.Looked.{among-get}
 use Rattle.wac_types_fit.proofs.Items.{value_at-among, among-value_at}
 use Rattle.wac_graph_bytes.specs.declared.entry.Entry.{Entry as CodeEntry}
 use Rattle.wac_graph_scopes.specs.declared.imports.SortIndex.{SortIndex}
 use Rattle.wac_graph_scopes.specs.Orders.{IsOrder}
 use Rattle.wac_graph_scopes.specs.Imports.{names_at}
+use Rattle.wac_graph_scopes.proofs.WritingLaws.{among_has}
+use Rattle.wac_graph_scopes.proofs.OrderLaws.{distinct-append}
 use Rattle.wac_graph_scopes.proofs.PartLaws.{name_at}
 use Rattle.wac_graph_scopes.proofs.ImportLaws.{named_place, one_place}
-use Rattle.wac_graph_encode.specs.Standing.{Rearranges}
-use Rattle.wac_graph_encode.specs.Writing.{IsExportOf, AddsExport, AddsExports, exports_at}
+use Rattle.wac_graph_encode.specs.Standing.{AreFirst, Rearranges}
+use Rattle.wac_graph_encode.specs.Writing.{IsExportOf, AddsExport, AddsExports, other_exports, exports_at}
 
 -- ---- at places
 
@@ -79,13 +84,103 @@ rearranged xs order d is = record { distinct = apart; kept = λ n. kept n (value
         let there = back_in_order xs order (n, k) (value_at-among (exports_at xs order) n k q) in
         absurd (cc (sym e ∙ among-value_at xs n k d there))
 
+-- ---- behind some that come first
+
+-- a name stands where something is found under it
+pub named_there : {V : Type 0} (es : List (Name × V)) (n : Name) → has_name (names_of es) n ≡ is_some (value_at es n)
+named_there [] n = refl
+named_there (e ∷ es) n = by (pointwise ◌==◌ n e.0) (named_there es n)
+  where
+    by : (b : Bool) → has_name (names_of es) n ≡ is_some (value_at es n) → (b || has_name (names_of es) n) ≡ is_some (if b then Some e.1 else value_at es n)
+    by true h = refl
+    by false h = h
+
+module _ (given : List (Name × ℕ)) where
+  -- those whose names are not among them
+  other_named : (xs : List (Name × ℕ)) (n : Name) → Among n (names_of (other_exports given xs)) → Among n (names_of xs) × (Among n (names_of given) → ⊥)
+  other_named [] n m = absurd m
+  other_named (x ∷ xs) n m = by (other_named xs n) (has_name (names_of given) x.0) refl m
+    where
+      by : (Among n (names_of (other_exports given xs)) → Among n (names_of xs) × (Among n (names_of given) → ⊥)) → (b : Bool) → has_name (names_of given) x.0 ≡ b
+          → Among n (names_of (if not b then x ∷ other_exports given xs else other_exports given xs)) → Among n (names_of (x ∷ xs)) × (Among n (names_of given) → ⊥)
+      by rest true q k = let r = rest k in (inr r.0, r.1)
+      by rest false q (inl e) = (inl e, λ a. not_among (names_of given) x.0 q (subst (λ (y : Name). Among y (names_of given)) e a))
+      by rest false q (inr k) = let r = rest k in (inr r.0, r.1)
+
+  others_distinct : (xs : List (Name × ℕ)) → AreDistinct (names_of xs) → AreDistinct (names_of (other_exports given xs))
+  others_distinct [] d = tt
+  others_distinct (x ∷ xs) d = by (has_name (names_of given) x.0) (others_distinct xs d.1)
+    where
+      by : (b : Bool) → AreDistinct (names_of (other_exports given xs)) → AreDistinct (names_of (if not b then x ∷ other_exports given xs else other_exports given xs))
+      by true r = r
+      by false r = (λ m. d.0 (other_named xs x.0 m).0, r)
+
+  -- what is under a name that is not among them
+  other_value : (xs : List (Name × ℕ)) (n : Name) → (Among n (names_of given) → ⊥) → value_at (other_exports given xs) n ≡ value_at xs n
+  other_value [] n far = refl
+  other_value (x ∷ xs) n far = by (has_name (names_of given) x.0) refl (other_value xs n far)
+    where
+      by : (b : Bool) → has_name (names_of given) x.0 ≡ b → value_at (other_exports given xs) n ≡ value_at xs n
+          → value_at (if not b then x ∷ other_exports given xs else other_exports given xs) n ≡ (if pointwise ◌==◌ n x.0 then Some x.1 else value_at xs n)
+      by false q r = ap (λ (o : Option ℕ). if pointwise ◌==◌ n x.0 then Some x.1 else o) r
+      by true q r = apart (pointwise ◌==◌ n x.0) refl
+        where
+          apart : (t : Bool) → pointwise ◌==◌ n x.0 ≡ t → value_at (other_exports given xs) n ≡ (if t then Some x.1 else value_at xs n)
+          apart false e = r
+          apart true e = absurd (far (subst (λ (y : Name). Among y (names_of given)) (sym ((bytes_eq-Decides n x.0).0 e)) (among_has (names_of given) x.0 q)))
+
+  first_value : (xs : List (Name × ℕ)) (n : Name) (k : ℕ) → value_at given n ≡ Some k → value_at (given ++ xs) n ≡ Some k
+  first_value xs n k e = front given e
+    where
+      front : (gs : List (Name × ℕ)) → value_at gs n ≡ Some k → value_at (gs ++ xs) n ≡ Some k
+      front [] q = absurd (cc q)
+      front (g ∷ gs) q = by (pointwise ◌==◌ n g.0) q (front gs)
+        where
+          by : (t : Bool) → (if t then Some g.1 else value_at gs n) ≡ Some k → (value_at gs n ≡ Some k → value_at (gs ++ xs) n ≡ Some k) → (if t then Some g.1 else value_at (gs ++ xs) n) ≡ Some k
+          by true a r = a
+          by false a r = r a
+
+  behind_value : (xs : List (Name × ℕ)) (n : Name) → value_at given n ≡ None → value_at (given ++ xs) n ≡ value_at xs n
+  behind_value xs n e = front given e
+    where
+      front : (gs : List (Name × ℕ)) → value_at gs n ≡ None → value_at (gs ++ xs) n ≡ value_at xs n
+      front [] q = refl
+      front (g ∷ gs) q = by (pointwise ◌==◌ n g.0) q (front gs)
+        where
+          by : (t : Bool) → (if t then Some g.1 else value_at gs n) ≡ None → (value_at gs n ≡ None → value_at (gs ++ xs) n ≡ value_at xs n) → (if t then Some g.1 else value_at (gs ++ xs) n) ≡ value_at xs n
+          by true a r = absurd (cc a)
+          by false a r = r a
+
+  pub first_rearranged : (xs ys : List (Name × ℕ)) → AreFirst given xs → Rearranges xs ys → Rearranges xs (given ++ other_exports given ys)
+  first_rearranged xs ys first r = record {
+    distinct = subst AreDistinct (sym (map-append (λ (x : Name × ℕ). x.0) given (other_exports given ys)))
+        (distinct-append (names_of given) (names_of (other_exports given ys)) first.once (others_distinct ys r.distinct) (λ n a b. (other_named ys n b).1 a));
+    kept = λ n. kept n (value_at given n) refl;
+  }
+    where
+      kept : (n : Name) (o : Option ℕ) → value_at given n ≡ o → value_at (given ++ other_exports given ys) n ≡ value_at xs n
+      kept n (Some k) e = first_value (other_exports given ys) n k e ∙ sym (first.there (n, k) (value_at-among given n k e))
+      kept n None e =
+          behind_value (other_exports given ys) n e
+          ∙ other_value ys n (λ m. value_none given n e m)
+          ∙ r.kept n
+
 -- ---- one after another
+
+pub others_next : (given xs ys : List (Name × ℕ)) → other_exports given (xs ++ ys) ≡ other_exports given xs ++ other_exports given ys
+others_next given [] ys = refl
+others_next given (x ∷ xs) ys = by (has_name (names_of given) x.0) (others_next given xs ys)
+  where
+    by : (b : Bool) → other_exports given (xs ++ ys) ≡ other_exports given xs ++ other_exports given ys
+        → (if not b then x ∷ other_exports given (xs ++ ys) else other_exports given (xs ++ ys)) ≡ (if not b then x ∷ other_exports given xs else other_exports given xs) ++ other_exports given ys
+    by true r = r
+    by false r = ap (λ l. x ∷ l) r
 
 pub exports_next : (xs : List (Name × ℕ)) (ks : List ℕ) (k : ℕ) → exports_at xs (ks ++ k ∷ []) ≡ exports_at xs ks ++ exports_at xs (k ∷ [])
 exports_next xs [] k = refl
 exports_next xs (j ∷ ks) k = ap (λ l. option_to_list (slice_get xs j) ++ l) (exports_next xs ks k) ∙ sym (append_assoc (option_to_list (slice_get xs j)) (exports_at xs ks) (exports_at xs (k ∷ [])))
 
-zips_append : {A B : Type 0} (R : A → B → Type 0) (xs us : List A) (ys vs : List B) → AllZip R xs ys → AllZip R us vs → AllZip R (xs ++ us) (ys ++ vs)
+pub zips_append : {A B : Type 0} (R : A → B → Type 0) (xs us : List A) (ys vs : List B) → AllZip R xs ys → AllZip R us vs → AllZip R (xs ++ us) (ys ++ vs)
 zips_append R [] us [] vs a b = b
 zips_append R [] us (y ∷ ys) vs a b = absurd a
 zips_append R (x ∷ xs) us [] vs a b = absurd a

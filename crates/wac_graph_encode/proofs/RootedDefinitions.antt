@@ -1,12 +1,15 @@
 -- Definitions that are written stand for their nodes.
-use Rattle.indexmap.specs.IndexMap.{insert_entry}
-use Rattle.std.proofs.Common.{Result, Ok, Err, IfOk, ◌≡◌, ℕ, true, List, [], ◌∷◌, map, Option, Some, None, slice_get, refl, sym, ap, subst, ◌∙◌, inl, inr}
+use Rattle.indexmap.specs.IndexMap.{IndexMap, insert_entry}
+use Rattle.std.specs.Map.{lookup}
+use Rattle.std.specs.Prelude.{nat_eq, if◌then◌else◌}
+use Rattle.std.proofs.Common.{Result, Ok, Err, IfOk, ◌≡◌, ℕ, Bool, true, false, List, [], ◌∷◌, map, Option, Some, None, slice_get, refl, sym, ap, subst, ◌∙◌, inl, inr, arith}
+use Rattle.std.proofs.lemmas.Bool.Decides.{nat_tests}
 use Rattle.std.proofs.lemmas.Option.{none-some, same_Some}
 use Rattle.wac_types_base.specs.declared.item.ItemKind.{ItemKind}
 use Rattle.wac_types_base.specs.declared.item.«Type».{«Type» as TypeKind}
 use Rattle.wac_types_base.specs.declared.ids.WorldId.{WorldId}
 use Rattle.wac_types_base.specs.Record.{Collection}
-use Rattle.wac_types_base.specs.Entries.{Name}
+use Rattle.wac_types_base.specs.Entries.{Name, value_at}
 use Rattle.wac_types_base.specs.Graph.{Among}
 use Rattle.wac_types_base.specs.Collection.{Stands, IsAcyclic}
 use Rattle.wac_types_base.proofs.Telling.{item_kind, kind_stated}
@@ -30,8 +33,11 @@ use Rattle.wac_graph_core.specs.contracts.ids.NodeIdPartialEq.TheImpl as node_id
 use Rattle.wac_graph_scopes.specs.declared.imports.SortIndex.{SortIndex}
 use Rattle.wac_graph_scopes.specs.declared.scope.KnownTypes.{KnownTypes}
 use Rattle.wac_graph_scopes.specs.declared.imports.ImportScope.{ImportScope}
-use Rattle.wac_graph_scopes.specs.Items.{sort_of, HasEntry, IsNoResource, IsEntryOf}
-use Rattle.wac_graph_scopes.specs.Imports.{WritesOn, DescribesIn, DescribesApart}
+use Rattle.wac_graph_scopes.specs.declared.items.ItemScope.{ItemScope}
+use Rattle.wac_graph_scopes.specs.Items.{sort_of, HasEntry, IsNoResource, IsEntryOf, GivesMeaning}
+use Rattle.wac_graph_scopes.specs.Imports.{WritesWorld, WritesOn, DescribesIn, DescribesApart}
+use Rattle.wac_graph_scopes.proofs.WritingLaws.{writes_on}
+use Rattle.wac_graph_scopes.proofs.ImportLaws.{world_goes}
 use Rattle.wac_graph_scopes.proofs.ScopeLaws.{Extends-trans, all_known_kept}
 use Rattle.wac_graph_scopes.specs.Scopes.{Extends, GoesOn, AreKnown}
 use Rattle.wac_graph_scopes.specs.Roots.{at_root}
@@ -40,12 +46,14 @@ use Rattle.wac_graph_asks.specs.Graphs.{composition_of, definition_by, nodes_of}
 use Rattle.wac_graph_asks.specs.Wirings.{written_tree}
 use Rattle.wac_graph_asks.specs.Asked.{placed_in}
 use Rattle.wac_graph_asks.proofs.ByNode.{entry_there}
-use Rattle.wac_graph_encode.specs.Standing.{StandsAt}
+use Rattle.wac_graph_encode.specs.declared.root.Defined.{Defined}
+use Rattle.wac_graph_encode.specs.declared.declarations.Early.{Early}
+use Rattle.wac_graph_encode.specs.Standing.{StandsAt, type_place}
 use Rattle.wac_graph_encode.specs.Formed.{HasForm}
 use Rattle.wac_graph_encode.proofs.FormKinds.{own_form, form_entry}
 use Rattle.wac_graph_encode.proofs.Entries.{same_node}
 use Rattle.wac_graph_encode.proofs.Nesting.{inserted_among}
-use Rattle.wac_graph_encode.specs.Defining.{IsNodeOf, IsToWrite, AreToWrite, HoldsDefinitions, DefinesIn}
+use Rattle.wac_graph_encode.specs.Defining.{IsNodeOf, IsToWrite, AreToWrite, IsEarlyAt, AreEarly, HoldsDefinitions, HoldsEntry, NotesEarly, DefinesIn}
 
 module _ (g : Graph) where
   node_of : (x : Definition) → Among (placed_in g.types x) (composition_of g).definitions → IsNodeOf g x
@@ -68,7 +76,7 @@ module _ (g : Graph) where
   module _ (sound : IsGraph g) (w : Worlds) where
     -- what has a type entry of its own, with the type as it is written, stands for its node
     pub known_stands : (i : Inside) (x : Definition) → IsNodeOf g x → (index : ℕ) (t : Tree) → slice_get i.here.types index ≡ Some (Known t) → typing.item_of t ≡ written_tree g (ItemKind.Ty x.ty)
-        → StandsAt g w (at_root i) [] x.node (record { sort = sort.Ty; index = index })
+        → StandsAt g w (at_root i []) [] x.node (record { sort = sort.Ty; index = index })
     known_stands i x n index t at is =
         let d = (sound.nodes x.node n.node n.there).defined n.role in
         record {
@@ -85,7 +93,7 @@ module _ (g : Graph) where
         }
 
     -- what stood stands
-    pub stands_extended : (i j : Inside) (order : List ℕ) (k : ℕ) (p : SortIndex) → Extends i.here j.here → StandsAt g w (at_root i) order k p → StandsAt g w (at_root j) order k p
+    pub stands_extended : (i j : Inside) (order : List ℕ) (k : ℕ) (p : SortIndex) → Extends i.here j.here → StandsAt g w (at_root i []) order k p → StandsAt g w (at_root j []) order k p
     stands_extended i j order k p more s = record {
       node = s.node;
       there = s.there;
@@ -182,35 +190,120 @@ module _ (g : Graph) (sound : IsGraph g) (finite_types : IsAcyclic g.types) (c :
 
 -- ---- and the nodes stand
 
-module _ (g : Graph) (sound : IsGraph g) (w : Worlds) (c : Collection) (world : WorldId) (i : Inside) (imported : List Name) (x : Definition) (to : IsToWrite g c x) (old new : ImportScope) (before after : KnownTypes) (nodes : List (ℕ × SortIndex)) (holds : HoldsDefinitions g w c world i imported old before nodes) (d : Description)
-    (defines : DefinesIn g w c world holds.written.goes.writing.inside imported x new after d) where
-  on : WritesOn w c [] world i new imported []
-  on = record { goes = defines.goes; on = goes_trans i holds.written.goes.writing.inside defines.goes.writing.inside holds.written.on defines.on }
+-- what is exported early still is
+pub early_extended : (g : Graph) (sound : IsGraph g) (w : Worlds) (i j : Inside) (es : List (ℕ × Early)) → Extends i.here j.here → AreEarly g w i es → AreEarly g w j es
+early_extended g sound w i j es more h k e at = let a = h k e at in record { stands = stands_extended g sound w i j [] e.node (type_place k) more a.stands; export = a.export }
 
-  stood : (k : ℕ) (p : SortIndex) → Among (k, p) nodes → StandsAt g w (at_root defines.goes.writing.inside) [] k p
-  stood k p m = stands_extended g sound w holds.written.goes.writing.inside defines.goes.writing.inside [] k p defines.on.extends (holds.stand k p m)
+module _ (g : Graph) (sound : IsGraph g) (w : Worlds) (c : Collection) (world : WorldId) (i : Inside) (imported : List Name) (x : Definition) (of : IsNodeOf g x) where
+  -- the scope goes on
+  module _ (old new : ImportScope) (known known_then : KnownTypes) (nodes : List (ℕ × SortIndex)) (early : List (ℕ × Early)) (holds : HoldsDefinitions g w c world i imported old known nodes early)
+      (goes : WritesWorld w c [] world new imported []) (on : GoesOn holds.written.goes.writing.inside goes.writing.inside) (knows : AreKnown w (goes.writing.inside.here ∷ []) g.types known_then) where
+    pub held_on : HoldsDefinitions g w c world i imported new known_then nodes early
+    held_on =
+        let from = holds.written.goes.writing.inside in
+        let to = goes.writing.inside in
+        record {
+          written = record { goes = goes; on = goes_trans i from to holds.written.on on };
+          knows = knows;
+          stand = λ k p m. stands_extended g sound w from to [] k p on.extends (holds.stand k p m);
+          exported = early_extended g sound w from to early on.extends holds.exported;
+        }
 
-  pub one_held : (index : ℕ) → d ≡ desc.Equal index → HoldsDefinitions g w c world i imported new after (insert_entry node_id.eq-value.it nodes x.node (record { sort = sort.Ty; index = index }))
-  unfolding on
-  one_held index is = record {
-    written = on;
-    knows = defines.knows;
-    stand = λ k p m. elim (inserted_among node_id.eq-value.it same_node nodes x.node (record { sort = sort.Ty; index = index }) (k, p) m) [
-      | inl old ↦ stood k p old
-      | inr new ↦
-          let at : defines.entry.0 ≡ index = cc (sym defines.entry.1 ∙ is) in
-          subst (λ (e : ℕ × SortIndex). StandsAt g w (at_root defines.goes.writing.inside) [] e.0 e.1) (sym new)
-          (known_stands g sound w defines.goes.writing.inside x to.node index defines.entry.2 (ap (slice_get defines.goes.writing.inside.here.types) (sym at) ∙ defines.entry.3) defines.entry.4)
-    ];
-  }
+  -- its type stands at the index
+  pub defined_entry : (old new : ImportScope) (before after : Defined) → (holds : HoldsDefinitions g w c world i imported old before.known before.nodes.entries before.early.entries) (d : Description)
+      → DefinesIn g w c world holds.written.goes.writing.inside imported x new after.known d → after.nodes ≡ before.nodes → after.early ≡ before.early → (k : ℕ) → d ≡ desc.Equal k → HoldsEntry g w c world i imported x new after after.nodes.entries k
+  unfolding held_on
+  defined_entry old new before after holds d defines nodes early k is =
+      let at : defines.entry.0 ≡ k = cc (sym defines.entry.1 ∙ is) in
+      let first = held_on old new before.known after.known before.nodes.entries before.early.entries holds defines.goes defines.on defines.knows in
+      record {
+        holds = record {
+          written = first.written;
+          knows = first.knows;
+          stand = λ j p m. first.stand j p (subst (λ (ns : List (ℕ × SortIndex)). Among (j, p) ns) (ap (λ ns. ns.entries) nodes) m);
+          exported = λ j e at. first.exported j e (ap (λ (m : IndexMap ℕ Early _). lookup (nat_eq j) m.entries) (sym early) ∙ at);
+        };
+        entry = (k, refl, defines.entry.2, ap (slice_get defines.goes.writing.inside.here.types) (sym at) ∙ defines.entry.3, defines.entry.4);
+        same = refl;
+      }
+
+  -- it stands for its node
+  pub entry_noted : (s : ImportScope) (d : Defined) (nodes : List (ℕ × SortIndex)) (k : ℕ) → HoldsEntry g w c world i imported x s d nodes k → HoldsDefinitions g w c world i imported s d.known (insert_entry node_id.eq-value.it nodes x.node (record { sort = sort.Ty; index = k })) d.early.entries
+  entry_noted s d nodes k h =
+      let holds = h.holds in
+      let inside = holds.written.goes.writing.inside in
+      let at : h.entry.0 ≡ k = cc (sym h.entry.1) in
+      record {
+        written = holds.written;
+        knows = holds.knows;
+        stand = λ j p m. elim (inserted_among node_id.eq-value.it same_node nodes x.node (record { sort = sort.Ty; index = k }) (j, p) m) [
+          | inl old ↦ holds.stand j p old
+          | inr new ↦
+              subst (λ (e : ℕ × SortIndex). StandsAt g w (at_root inside []) [] e.0 e.1) (sym new)
+              (known_stands g sound w inside x of k h.entry.2 (ap (slice_get inside.here.types) (sym at) ∙ h.entry.3) h.entry.4)
+        ];
+        exported = holds.exported;
+      }
+
+  -- it is exported, and stands by another index
+  module _ (old : ImportScope) (scope : ItemScope) (before known after : Defined) (k own : ℕ) (h : HoldsEntry g w c world i imported x old before before.nodes.entries k)
+      (gives : GivesMeaning w c [] h.holds.written.goes.writing.inside (Known h.entry.2) scope own) (export : value_at g.exports x.name ≡ Some x.node)
+      (puts : (ss : List Scope) (u : Tree) → AreKnown w ss g.types before.known → typing.type_at w ss own ≡ Some u → typing.item_of u ≡ written_tree g (ItemKind.Ty x.ty) → AreKnown w ss g.types known.known)
+      (nodes : known.nodes ≡ before.nodes) (early : known.early ≡ before.early) (notes : NotesEarly x k known after) where
+    abbrev new : ImportScope
+    new = record old { scope = scope }
+
+    from : Inside
+    from = h.holds.written.goes.writing.inside
+
+    goes : WritesWorld w c [] world new imported []
+    goes = world_goes w c [] world imported [] old scope h.holds.written.goes gives.after gives.goes
+
+    knows : AreKnown w (gives.after.here ∷ []) g.types known.known
+    unfolding from
+    knows =
+        puts (gives.after.here ∷ []) h.entry.2 (all_known_kept w g.types from.here gives.after.here [] before.known gives.goes.extends h.holds.knows)
+        (ap (λ (o : Option Meaning). o >>= typing.type_tree w) gives.index) h.entry.4
+
+    early_same : (j : ℕ) (e : Early) → lookup (nat_eq j) known.early.entries ≡ Some e → lookup (nat_eq j) before.early.entries ≡ Some e
+    early_same j e at = ap (λ (m : IndexMap ℕ Early _). lookup (nat_eq j) m.entries) (sym early) ∙ at
+
+    pub entry_exported : HoldsEntry g w c world i imported x new after before.nodes.entries own
+    unfolding from goes knows writes_on world_goes held_on
+    entry_exported =
+        let to = gives.after in
+        let on : GoesOn from to = record { extends = gives.goes.extends; imports = gives.goes.imports; exports = gives.goes.exports } in
+        let first = held_on old new before.known known.known before.nodes.entries before.early.entries h.holds goes on knows in
+        let k_is : h.entry.0 ≡ k = cc (sym h.entry.1) in
+        let k_at : slice_get to.here.types k ≡ Some (Known h.entry.2) = gives.goes.extends.indexes sort.Ty k (Known h.entry.2) (ap (slice_get from.here.types) (sym k_is) ∙ h.entry.3) in
+        record {
+          holds = record {
+            written = first.written;
+            knows = subst (λ (ks : KnownTypes). AreKnown w (to.here ∷ []) g.types ks) (sym notes.known) knows;
+            stand = first.stand;
+            exported = λ j e at. one to k_at first.exported j e (nat_eq k j) refl (sym (notes.early j) ∙ at);
+          };
+          entry = (own, refl, h.entry.2, gives.index, h.entry.4);
+          same = ap (λ ns. ns.entries) (notes.nodes ∙ nodes);
+        }
+      where
+        one : (to : Inside) → slice_get to.here.types k ≡ Some (Known h.entry.2) → AreEarly g w to before.early.entries → (j : ℕ) (e : Early) (b : Bool) → nat_eq k j ≡ b
+            → (if b then Some (record { name = x.name; node = x.node }) else lookup (nat_eq j) known.early.entries) ≡ Some e → IsEarlyAt g w to j e
+        one to at held j e true q is =
+            let same : record { name = x.name; node = x.node } ≡ e = same_Some _ _ is in
+            let number : k ≡ j = grind (arith, nat_tests, q) in
+            subst (IsEarlyAt g w to j) same
+            (subst (λ (n : ℕ). IsEarlyAt g w to n (record { name = x.name; node = x.node })) number (record { stands = known_stands g sound w to x of k h.entry.2 at h.entry.4; export = export }))
+        one to at held j e false q is = held j e (early_same j e is)
 
 -- at first nothing stands
-pub none_held : (g : Graph) (w : Worlds) (c : Collection) (world : WorldId) (i : Inside) (imported : List Name) (s : ImportScope) (known : KnownTypes) (nodes : List (ℕ × SortIndex)) (h : WritesOn w c [] world i s imported [])
-    → AreKnown w (h.goes.writing.inside.here ∷ []) g.types known → nodes ≡ [] → HoldsDefinitions g w c world i imported s known nodes
-none_held g w c world i imported s known nodes h knows none = record {
+pub none_held : (g : Graph) (w : Worlds) (c : Collection) (world : WorldId) (i : Inside) (imported : List Name) (s : ImportScope) (known : KnownTypes) (nodes : List (ℕ × SortIndex)) (early : List (ℕ × Early)) (h : WritesOn w c [] world i s imported [])
+    → AreKnown w (h.goes.writing.inside.here ∷ []) g.types known → nodes ≡ [] → early ≡ [] → HoldsDefinitions g w c world i imported s known nodes early
+none_held g w c world i imported s known nodes early h knows none unsaid = record {
   written = h;
   knows = knows;
   stand = λ k p m. absurd (subst (λ (es : List (ℕ × SortIndex)). Among (k, p) es) none m);
+  exported = λ k e at. absurd (none-some e (ap (λ (es : List (ℕ × Early)). lookup (nat_eq k) es) (sym unsaid) ∙ at));
 }
 
 pub one_to_write : (g : Graph) (c : Collection) (xs : List Definition) (x : Definition) → Among x xs → AreToWrite g c xs → AreToWrite g c (x ∷ [])

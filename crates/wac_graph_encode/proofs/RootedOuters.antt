@@ -65,7 +65,7 @@ module _ (g : Graph) (sound : IsGraph g) (finite_types : IsAcyclic g.types) (c :
       subst (λ s. Fits (tree s) (tree (item_of g x))) (same_Some _ _ (sym met.there ∙ found)) met.fits
 
   pub outers_stand : (w : Worlds) (i : Inside) (ps : List (Option SortIndex)) → ArePlaced w c (i.here ∷ []) (imports_of c world) ps → (one : Called) (p : SortIndex) → Among one called → slice_get ps one.at ≡ Some (Some p)
-      → IsOuterAt g w (at_root i) one.name p
+      → IsOuterAt g w (at_root i []) one.name p
   unfolding tree_in
   outers_stand w i ps placed one p m at =
       let call = is.called_there one m in

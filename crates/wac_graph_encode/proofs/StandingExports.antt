@@ -25,6 +25,7 @@ use Rattle.wac_graph_asks.specs.Wirings.{written_tree}
 use Rattle.wac_graph_encode.specs.Standing.{by_number, spelled, IsExported, IsWritten, IsFinished}
 use Rattle.wac_graph_encode.specs.Writing.{IsExportOf, AddsInOrder, AllAreWritten}
 use Rattle.wac_graph_encode.proofs.WritingLaws.{names_among}
+use Rattle.wac_graph_encode.proofs.Rearranging.{zips_append}
 
 steps_more : (w : Worlds) (st : State) (xs ys : List Entry) → steps w st (xs ++ ys) ≡ (steps w st xs >>= λ m. steps w m ys)
 unfolding steps
@@ -35,8 +36,8 @@ steps_more w st (x ∷ xs) ys = go (step w st x) (λ m. steps_more w m xs ys)
     go None rest = refl
     go (Some m) rest = rest m
 
-module _ (g : Graph) (is : IsGraph g) (worlds : Worlds) (define : Bool) (asked : List (Name × Tree)) (found : List (Name × SortIndex)) (held : List (PackageId × ℕ))
-    (es : List CodeEntry) (c : Counts) (nodes : List (ℕ × SortIndex)) (h : IsWritten g worlds define asked found held es c nodes) where
+module _ (g : Graph) (is : IsGraph g) (worlds : Worlds) (define : Bool) (asked : List (Name × Tree)) (found : List (Name × SortIndex)) (held : List (PackageId × ℕ)) (first : List (Name × ℕ))
+    (es : List CodeEntry) (c : Counts) (nodes : List (ℕ × SortIndex)) (h : IsWritten g worlds define asked found held first es c nodes) where
   -- the state behind some of the exports
   record Along (st : State) (xs : List (Name × ℕ)) (fs : List CodeEntry) : Type 0 where
     last : State
@@ -93,7 +94,7 @@ module _ (g : Graph) (is : IsGraph g) (worlds : Worlds) (define : Bool) (asked :
           made None q t = absurd (cc (subst (λ (o : Option PackageId). IsSome (package_if g o)) q t))
           made (Some id) q t = (is.nodes k x e).only id q
 
-  pub exports_finished : (new : List CodeEntry) → AllAreWritten g nodes → AddsInOrder nodes g.exports es new → IsFinished g worlds define asked new
+  pub exports_finished : (new : List CodeEntry) → AllAreWritten g nodes → AddsInOrder nodes first g.exports es new → IsFinished g worlds define asked new
   exports_finished new all o =
       let x = o.adds in
       let a = along o.listing x.entries h.state (λ s i m e. e) x.are in
@@ -109,7 +110,8 @@ module _ (g : Graph) (is : IsGraph g) (worlds : Worlds) (define : Bool) (asked :
         once = h.once;
         all = all_listed all;
         instances = subst (AllZip _ h.order) (sym a.instances) h.instances;
-        listing = o.listing;
-        rearranged = o.rearranged;
-        exports = subst (AllZip (IsExported g worlds define h.order) o.listing) (sym (a.exports ∙ ap (λ (ys : List (Name × Source ℕ)). ys ++ a.exported) h.exports)) a.are;
+        listing = first ++ o.listing;
+        rearranged = o.rearranged h.firsts;
+        exports = subst (AllZip (IsExported g worlds define h.order) (first ++ o.listing)) (sym a.exports)
+            (zips_append (IsExported g worlds define h.order) first o.listing h.state.listed.exports a.exported h.exports a.are);
       }

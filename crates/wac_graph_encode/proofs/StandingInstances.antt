@@ -35,15 +35,16 @@ use Rattle.wac_graph_encode.specs.declared.root.Counts.{Counts}
 use Rattle.wac_graph_encode.specs.Encoding.{tag_of}
 use Rattle.wac_graph_encode.specs.Standing as standing
 use Rattle.wac_graph_scopes.specs.Items.{sort_of}
-use Rattle.wac_graph_encode.specs.Standing.{number_in, by_number, StandsAt, IsOuterAt, IsPackageAt, IsListed, IsWritten, CountsOne}
+use Rattle.wac_graph_encode.specs.Standing.{number_in, by_number, StandsAt, IsOuterAt, IsPackageAt, IsListed, IsExported, IsWritten, CountsOne}
 use Rattle.wac_graph_encode.specs.Writing.{AreGivenAt}
 use Rattle.wac_types_fit.proofs.Items.{Among-last}
-use Rattle.wac_graph_encode.proofs.StandingNumbers.{number_more, number_last, by_number_on, zip_more, zip_map, zip_length}
-use Rattle.wac_graph_encode.proofs.StandingSteps.{named_front, named_end, stands_on, outer_on, package_on, listed_on, counts_one, read_one, index_is}
+use Rattle.wac_graph_encode.proofs.StandingNumbers.{number_more, number_last, by_number_on, zip_map, zip_length}
+use Rattle.wac_graph_scopes.proofs.RootLaws.{zip_more}
+use Rattle.wac_graph_encode.proofs.StandingSteps.{named_front, named_end, stands_on, outer_on, package_on, exported_on, listed_on, counts_one, read_one, index_is}
 use Rattle.wac_graph_encode.proofs.StandingGiven.{Given, given, has_imports, instance_made, instance_is, instance_written, instance_given}
 
-module _ (g : Graph) (is : IsGraph g) (worlds : Worlds) (define : Bool) (asked : List (Name × Tree)) (found : List (Name × SortIndex)) (held : List (PackageId × ℕ))
-    (es : List CodeEntry) (c : Counts) (nodes : List (ℕ × SortIndex)) (h : IsWritten g worlds define asked found held es c nodes) where
+module _ (g : Graph) (is : IsGraph g) (worlds : Worlds) (define : Bool) (asked : List (Name × Tree)) (found : List (Name × SortIndex)) (held : List (PackageId × ℕ)) (first : List (Name × ℕ))
+    (es : List CodeEntry) (c : Counts) (nodes : List (ℕ × SortIndex)) (h : IsWritten g worlds define asked found held first es c nodes) where
   abbrev st : State
   st = h.state
 
@@ -71,12 +72,13 @@ module _ (g : Graph) (is : IsGraph g) (worlds : Worlds) (define : Bool) (asked :
     import_by j q (inl m) = h.stand j q m
     import_by j q (inr same) = subst (λ (y : ℕ × SortIndex). StandsAt g worlds st h.order y.0 y.1) (sym same) import_stands
 
-    pub import_written : IsWritten g worlds define asked found held es c (nodes ++ (k, p) ∷ [])
+    pub import_written : IsWritten g worlds define asked found held first es c (nodes ++ (k, p) ∷ [])
     import_written = record {
       state = st;
       reads = h.reads;
       counts = h.counts;
       imports = h.imports;
+      firsts = h.firsts;
       exports = h.exports;
       stated = h.stated;
       outers = h.outers;
@@ -103,8 +105,8 @@ module _ (g : Graph) (is : IsGraph g) (worlds : Worlds) (define : Bool) (asked :
     item_is : x.item_kind ≡ ItemKind.Instance p.of.instance_type
     item_is = (is.nodes k x there).instance id p.of of_is p.is
 
-    abbrev all_given : Given g worlds define asked found held es c nodes h k ns as_
-    all_given = given g worlds define asked found held es c nodes h k ns as_ passed
+    abbrev all_given : Given g worlds define asked found held first es c nodes h k ns as_
+    all_given = given g worlds define asked found held first es c nodes h k ns as_ passed
 
     abbrev sources : List (Name × Source ℕ)
     sources = with_values (by_number h.order) all_given.sources
@@ -180,23 +182,24 @@ module _ (g : Graph) (is : IsGraph g) (worlds : Worlds) (define : Bool) (asked :
     listed = record {
       of = p.of;
       is = instance_of;
-      instance = instance_made g worlds define asked found held es c nodes h k p.of as_ ns all_given own_imports;
-      bound = instance_is g worlds define asked found held es c nodes h k p.of as_ ns all_given own_imports;
+      instance = instance_made g worlds define asked found held first es c nodes h k p.of as_ ns all_given own_imports;
+      bound = instance_is g worlds define asked found held first es c nodes h k p.of as_ ns all_given own_imports;
       tag = refl;
       once = subst AreDistinct (sym (names-with_values (by_number h.order) all_given.sources ∙ all_given.names)) once;
-      written = λ n. Uses-weaker among (source_at all_given.sources n) (instance_written g worlds define asked found held es c nodes h k p.of as_ ns all_given own_imports n);
-      given = λ n. instance_given g worlds define asked found held es c nodes h k p.of as_ ns all_given own_imports n
-          ∙ sym (by_number_on h.order more numbers (source_at all_given.sources n) (instance_written g worlds define asked found held es c nodes h k p.of as_ ns all_given own_imports n));
+      written = λ n. Uses-weaker among (source_at all_given.sources n) (instance_written g worlds define asked found held first es c nodes h k p.of as_ ns all_given own_imports n);
+      given = λ n. instance_given g worlds define asked found held first es c nodes h k p.of as_ ns all_given own_imports n
+          ∙ sym (by_number_on h.order more numbers (source_at all_given.sources n) (instance_written g worlds define asked found held first es c nodes h k p.of as_ ns all_given own_imports n));
     }
 
     module _ (e : CodeEntry) (d : Counts) (entry_is : view e ≡ Instantiate index as_) (counts : CountsOne sort.Instance c d) where
-      pub instance_written_on : IsWritten g worlds define asked found held (es ++ e ∷ []) d (nodes ++ (k, here) ∷ [])
+      pub instance_written_on : IsWritten g worlds define asked found held first (es ++ e ∷ []) d (nodes ++ (k, here) ∷ [])
       instance_written_on = record {
         state = next;
         reads = read_one worlds es e (Instantiate index as_) st next entry_is h.reads stepped;
         counts = counts_one es e sort.Instance c d (ap entry_sort entry_is) h.counts counts;
         imports = h.imports;
-        exports = h.exports;
+        firsts = h.firsts;
+        exports = zip_map (IsExported g worlds define h.order) (IsExported g worlds define more) (exported_on g worlds st next h.order more grown among numbers define) first st.listed.exports h.exports;
         stated = h.stated;
         outers = λ m q v. outer_on g worlds st next h.order more grown among numbers m q (h.outers m q v);
         packages = λ j i m. package_on g worlds st next h.order more grown among numbers define j i (h.packages j i m);

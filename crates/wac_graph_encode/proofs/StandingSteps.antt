@@ -35,7 +35,7 @@ use Rattle.wac_composition.specs.Classes.{is_instance_kind}
 use Rattle.wac_graph_encode.specs.declared.root.Counts.{Counts}
 use Rattle.wac_graph_encode.specs.Standing as standing
 use Rattle.wac_graph_scopes.specs.Items.{sort_of}
-use Rattle.wac_graph_encode.specs.Standing.{number_in, by_number, StandsAt, IsOuterAt, IsPackageAt, IsListed, IsWritten, CountsOne, StandsFor}
+use Rattle.wac_graph_encode.specs.Standing.{number_in, by_number, StandsAt, IsOuterAt, IsPackageAt, IsListed, IsExported, IsWritten, CountsOne, StandsFor}
 use Rattle.wac_types_fit.proofs.Items.{Among-last}
 use Rattle.wac_graph_encode.proofs.StandingNumbers.{by_number_on, project_named, named_number}
 use Rattle.wac_graph_encode.proofs.StandingTrees.{Gives, Sorts, gives_export, sorts}
@@ -102,6 +102,15 @@ module _ (g : Graph) (worlds : Worlds) (st next : State) (order more : List ℕ)
     pub package_on : (id : PackageId) (i : ℕ) → IsPackageAt g worlds define st id i → IsPackageAt g worlds define next id i
     package_on id i a = record { of = a.of; is = a.is; meaning = a.meaning; at = kept sort.Component i a.meaning a.at; tag = a.tag; world = a.world }
 
+    pub exported_on : (x : Name × ℕ) (e : Name × Source ℕ) → IsExported g worlds define order x e → IsExported g worlds define more x e
+    exported_on x e a = record {
+      name = a.name;
+      source = a.source;
+      denotes = a.denotes;
+      written = Uses-weaker among a.source a.written;
+      is = a.is ∙ sym (by_number_on order more numbers a.source a.written);
+    }
+
     pub listed_on : (k : ℕ) (x : Tag × List (Name × Source ℕ)) → IsListed g worlds define order k x → IsListed g worlds define more k x
     listed_on k x a = record {
       of = a.of;
@@ -140,8 +149,8 @@ pub read_one : (worlds : Worlds) (es : List CodeEntry) (e : CodeEntry) (x : Entr
 read_one worlds es e x st next is reads one =
     ap (λ (ys : List Entry). steps worlds start ys) (map-append view es (e ∷ []) ∙ ap (λ (y : Entry). map view es ++ y ∷ []) is) ∙ steps_push worlds (map view es) start st next x reads one
 
-module _ (g : Graph) (is : IsGraph g) (finite : IsFinite g.types) (worlds : Worlds) (define : Bool) (asked : List (Name × Tree)) (found : List (Name × SortIndex)) (held : List (PackageId × ℕ))
-    (es : List CodeEntry) (c : Counts) (nodes : List (ℕ × SortIndex)) (h : IsWritten g worlds define asked found held es c nodes) where
+module _ (g : Graph) (is : IsGraph g) (finite : IsFinite g.types) (worlds : Worlds) (define : Bool) (asked : List (Name × Tree)) (found : List (Name × SortIndex)) (held : List (PackageId × ℕ)) (first : List (Name × ℕ))
+    (es : List CodeEntry) (c : Counts) (nodes : List (ℕ × SortIndex)) (h : IsWritten g worlds define asked found held first es c nodes) where
   abbrev st : State
   st = h.state
 
@@ -232,12 +241,13 @@ module _ (g : Graph) (is : IsGraph g) (finite : IsFinite g.types) (worlds : Worl
       stand_by j q (inl m) = stands_on g worlds st next h.order h.order (grown s made) (λ i m. m) (λ i m. refl) j q (h.stand j q m)
       stand_by j q (inr same) = subst (λ (y : ℕ × SortIndex). StandsAt g worlds next h.order y.0 y.1) (sym same) alias_stands
 
-      pub alias_written : IsWritten g worlds define asked found held (es ++ e ∷ []) d (nodes ++ (k, here) ∷ [])
+      pub alias_written : IsWritten g worlds define asked found held first (es ++ e ∷ []) d (nodes ++ (k, here) ∷ [])
       alias_written = record {
         state = next;
         reads = read_one worlds es e (Aliased (ExportAlias s p.index n)) st next entry_is h.reads stepped;
         counts = counts_one es e s c d (ap entry_sort entry_is) h.counts more;
         imports = h.imports;
+        firsts = h.firsts;
         exports = h.exports;
         stated = h.stated;
         outers = λ m q v. outer_on g worlds st next h.order h.order (grown s made) (λ i m. m) (λ i m. refl) m q (h.outers m q v);

@@ -34,7 +34,8 @@ use Rattle.wac_graph_encode.specs.Standing.{IsGivenAt, argument, outer}
 use Rattle.wac_graph_encode.specs.Writing.{IsNeeded, AddsCalled, AreCalled, AddsEntry, AddsExport, AddsExports, AddsGiven, AddsNeeded, IsExportOf, exported_as, GivesUnder, by_node, by_import, AreGivenUnder, AreGivenAt, IsSameRoot, KeepsNodes, AddsOnly, Below, UpToOne, WrittenSo, noted, AllAreWritten}
 use Rattle.wac_graph_encode.proofs.Entries.{same_node, found_among, none_among}
 use Rattle.wac_types_fit.proofs.Items.{Among-last}
-use Rattle.wac_graph_encode.proofs.StandingNumbers.{zip_map, zip_more}
+use Rattle.wac_graph_scopes.proofs.RootLaws.{zip_more}
+use Rattle.wac_graph_encode.proofs.StandingNumbers.{zip_map}
 
 -- ---- what is given
 
@@ -155,10 +156,10 @@ stands_if nodes k None e x = absurd (cc e)
 stands_if nodes k (Some p) e x = name-among nodes k p x
 
 pub same_refl : (w : Wired) → IsSameRoot w w
-same_refl w = record { graph = refl; outers = refl; packages = refl; nested = refl }
+same_refl w = record { graph = refl; outers = refl; packages = refl; exported = refl; nested = refl }
 
 pub same_trans : (u v w : Wired) → IsSameRoot u v → IsSameRoot v w → IsSameRoot u w
-same_trans u v w a b = record { graph = b.graph ∙ a.graph; outers = b.outers ∙ a.outers; packages = b.packages ∙ a.packages; nested = b.nested ∙ a.nested }
+same_trans u v w a b = record { graph = b.graph ∙ a.graph; outers = b.outers ∙ a.outers; packages = b.packages ∙ a.packages; exported = b.exported ∙ a.exported; nested = b.nested ∙ a.nested }
 
 pub keeps_refl : (w : Wired) → KeepsNodes w w
 keeps_refl w = record { same = same_refl w; kept = λ k p m. m }

@@ -35,19 +35,21 @@ use Rattle.wac_graph_encode.proofs.StandingSteps.{alias_written}
 use Rattle.wac_graph_encode.proofs.StandingInstances.{import_written, instance_written_on}
 
 -- the same, with packages, entries and nodes that are known by equations
-moved : (g : Graph) (worlds : Worlds) (define : Bool) (asked : List (Name × Tree)) (found : List (Name × SortIndex)) (held old_held : List (PackageId × ℕ)) (es old : List CodeEntry) (c : Counts) (nodes old_nodes : List (ℕ × SortIndex)) → held ≡ old_held → es ≡ old → nodes ≡ old_nodes
-    → IsWritten g worlds define asked found old_held old c old_nodes → IsWritten g worlds define asked found held es c nodes
-moved g worlds define asked found held old_held es old c nodes old_nodes p q r h =
-    subst (λ x. IsWritten g worlds define asked found x es c nodes) (sym p) (subst (λ x. IsWritten g worlds define asked found old_held x c nodes) (sym q) (subst (IsWritten g worlds define asked found old_held old c) (sym r) h))
+moved : (g : Graph) (worlds : Worlds) (define : Bool) (asked : List (Name × Tree)) (found : List (Name × SortIndex)) (held old_held : List (PackageId × ℕ)) (given old_given : List (Name × ℕ)) (es old : List CodeEntry) (c : Counts) (nodes old_nodes : List (ℕ × SortIndex)) → held ≡ old_held → given ≡ old_given → es ≡ old → nodes ≡ old_nodes
+    → IsWritten g worlds define asked found old_held old_given old c old_nodes → IsWritten g worlds define asked found held given es c nodes
+moved g worlds define asked found held old_held given old_given es old c nodes old_nodes p v q r h =
+    subst (λ x. IsWritten g worlds define asked found x given es c nodes) (sym p)
+    (subst (λ x. IsWritten g worlds define asked found old_held x es c nodes) (sym v)
+    (subst (λ x. IsWritten g worlds define asked found old_held old_given x c nodes) (sym q) (subst (IsWritten g worlds define asked found old_held old_given old c) (sym r) h)))
 
 module _ (w : Wired) (is : IsGraph w.graph.now) (finite : IsAcyclic w.graph.now.types) (new : Root) (k : ℕ) (place : SortIndex) where
   abbrev Written : (define : Bool) (worlds : Worlds) (asked : List (Name × Tree)) → Type 0
-  Written define worlds asked = IsWritten w.graph.now worlds define asked w.outers new.packages.entries new.entries.items new.counts (noted w ++ (k, place) ∷ [])
+  Written define worlds asked = IsWritten w.graph.now worlds define asked w.outers new.packages.entries new.exported new.entries.items new.counts (noted w ++ (k, place) ∷ [])
 
   pub alias_wired : (s : Sort) (index : ℕ) (n : Name) → IsAliasAt w k s index n → AddsIndex w.root new (Aliased (ExportAlias s index n)) s place → (define : Bool) (worlds : Worlds) (asked : List (Name × Tree)) → WrittenSo define worlds asked w → Written define worlds asked
   alias_wired s index n a add define worlds asked h =
-      moved w.graph.now worlds define asked w.outers new.packages.entries w.root.packages.entries new.entries.items _ new.counts (noted w ++ (k, place) ∷ []) _ (ap (λ m. m.entries) add.packages) add.entry.added (ap (λ p. noted w ++ (k, p) ∷ []) add.index)
-      (alias_written w.graph.now is finite worlds define asked w.outers w.root.packages.entries w.root.entries.items w.root.counts (noted w) h a.from k n a.place a.item.node s a.stands a.edge a.item.there a.item.kind
+      moved w.graph.now worlds define asked w.outers new.packages.entries w.root.packages.entries new.exported w.root.exported new.entries.items _ new.counts (noted w ++ (k, place) ∷ []) _ (ap (λ m. m.entries) add.packages) add.exported add.entry.added (ap (λ p. noted w ++ (k, p) ∷ []) add.index)
+      (alias_written w.graph.now is finite worlds define asked w.outers w.root.packages.entries w.root.exported w.root.entries.items w.root.counts (noted w) h a.from k n a.place a.item.node s a.stands a.edge a.item.there a.item.kind
       add.entry.entry new.counts (add.entry.is ∙ ap (λ i. Aliased (ExportAlias s i n)) a.same) (add.counts (has_next w.root s (h.counts s))))
 
   module _ (id : PackageId) (index : ℕ) (bound : List (Name × ℕ)) (as_ : List Argument) (of_is : package_id_of (node_at w.graph.now k) ≡ Some id) (at : Among (id, index) w.root.packages.entries) (are : AreArguments w.graph.now k bound)
@@ -61,8 +63,8 @@ module _ (w : Wired) (is : IsGraph w.graph.now) (finite : IsAcyclic w.graph.now.
         let x = by_node (node_at w.graph.now k) refl of_is in
         let p = h.packages id index at in
         let all = passes p.of p.is in
-        moved w.graph.now worlds define asked w.outers new.packages.entries w.root.packages.entries new.entries.items _ new.counts (noted w ++ (k, place) ∷ []) _ (ap (λ m. m.entries) add.packages) add.entry.added (ap (λ q. noted w ++ (k, q) ∷ []) add.index)
-        (instance_written_on w.graph.now is worlds define asked w.outers w.root.packages.entries w.root.entries.items w.root.counts (noted w) h k x.0 id index as_ _ x.1 x.2 at all.0 (all.1 k are) (λ of e. ap (λ (q : Packaged). names_of (imports_of w.graph.now.types q.ty)) (some_same e p.is)) fresh add.entry.entry new.counts add.entry.is (add.counts (has_next w.root sort.Instance (h.counts sort.Instance))))
+        moved w.graph.now worlds define asked w.outers new.packages.entries w.root.packages.entries new.exported w.root.exported new.entries.items _ new.counts (noted w ++ (k, place) ∷ []) _ (ap (λ m. m.entries) add.packages) add.exported add.entry.added (ap (λ q. noted w ++ (k, q) ∷ []) add.index)
+        (instance_written_on w.graph.now is worlds define asked w.outers w.root.packages.entries w.root.exported w.root.entries.items w.root.counts (noted w) h k x.0 id index as_ _ x.1 x.2 at all.0 (all.1 k are) (λ of e. ap (λ (q : Packaged). names_of (imports_of w.graph.now.types q.ty)) (some_same e p.is)) fresh add.entry.entry new.counts add.entry.is (add.counts (has_next w.root sort.Instance (h.counts sort.Instance))))
       where
         some_same : {A : Type 0} {x y : A} {o : Option A} → o ≡ Some x → o ≡ Some y → x ≡ y
         some_same e f = cc (e, f)
@@ -84,7 +86,7 @@ module _ (w : Wired) (is : IsGraph w.graph.now) (k : ℕ) (n : Name) (named : im
   import_wired None e define worlds asked h = tt
   import_wired (Some p) e define worlds asked h =
       let x = import_node (node_at w.graph.now k) refl named in
-      import_written w.graph.now is worlds define asked w.outers w.root.packages.entries w.root.entries.items w.root.counts (noted w) h k n p x.0 x.1 x.2 (sym e)
+      import_written w.graph.now is worlds define asked w.outers w.root.packages.entries w.root.exported w.root.entries.items w.root.counts (noted w) h k n p x.0 x.1 x.2 (sym e)
 
 -- ---- arguments
 
@@ -111,7 +113,7 @@ module _ (w : Wired) (s : Standing) (nodes : s.nodes.now ≡ w.root.nodes) (oute
 -- ---- outer imports
 
 pub begun_outers : (define : Bool) (worlds : Worlds) (asked : List (Name × Tree)) (called : List Called) (w : Wired) (found : List (Name × SortIndex)) → IsBegun define worlds asked called w.graph.now w.root → AreCalled called w.root.imports.items found
-    → IsWritten w.graph.now worlds define asked found w.root.packages.entries w.root.entries.items w.root.counts (noted w)
+    → IsWritten w.graph.now worlds define asked found w.root.packages.entries w.root.exported w.root.entries.items w.root.counts (noted w)
 begun_outers define worlds asked called w found b are =
     let h = b.written in
     record {
@@ -119,6 +121,7 @@ begun_outers define worlds asked called w found b are =
       reads = h.reads;
       counts = h.counts;
       imports = h.imports;
+      firsts = h.firsts;
       exports = h.exports;
       stated = h.stated;
       outers = λ n p v. let c = are n p v in subst (λ m. IsOuterAt w.graph.now worlds h.state m p) c.name (b.outers c.one p c.there c.place);

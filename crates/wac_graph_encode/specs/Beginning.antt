@@ -13,12 +13,13 @@ use Rattle.wac_graph_scopes.specs.declared.imports.SortIndex.{SortIndex}
 use Rattle.wac_graph_scopes.specs.declared.imports.ImportScope.{ImportScope}
 use Rattle.wac_graph_scopes.specs.Imports.{WritesWorld}
 use Rattle.wac_graph_scopes.specs.Roots.{at_root}
+use Rattle.wac_graph_encode.specs.declared.declarations.Early.{Early}
 use Rattle.wac_graph_encode.specs.declared.root.Root.{Root}
 use Rattle.wac_graph_encode.specs.declared.root.Writing.{Writing}
 use Rattle.wac_graph_encode.specs.Standing.{StandsAt, IsOuterAt}
 use Rattle.wac_graph_asks.specs.Outers.{IsOuters}
 use Rattle.wac_graph_asks.specs.Wirings.{asked_trees}
-use Rattle.wac_graph_encode.specs.Defining.{AreToWrite}
+use Rattle.wac_graph_encode.specs.Defining.{AreEarly, AreToWrite}
 use Rattle.wac_graph_encode.specs.Encoding.{nested_at, bytes_of}
 use Rattle.wac_graph_encode.specs.Nesting.{IsTold}
 use Rattle.wac_graph_encode.specs.Importing.{AreWorldsOf, with_packages}
@@ -29,15 +30,17 @@ use Rattle.wac_graph_asks.specs.declared.asks.Definition.{Definition}
 abbrev pub AreTold : (define : Bool) → Graph → Worlds → List PackageId → Type 0
 AreTold define g w ids = (id : PackageId) → Among id ids → IsTold define g w id
 
--- where only types and outer imports are written, these stand for nodes, and those for the outer imports that are asked
+-- where only types and outer imports are written, these stand for nodes, some of which are exported early, and those for the
+-- outer imports that are asked
 pub record IsRooted (g : Graph) (w : Worlds) (called : List Called) (i : Inside) (nodes : List (ℕ × SortIndex))
-    (imports : List (Option SortIndex)) : Type 0 where
-  pub nodes_stand : (k : ℕ) (p : SortIndex) → Among (k, p) nodes → StandsAt g w (at_root i) [] k p
+    (early : List (ℕ × Early)) (imports : List (Option SortIndex)) : Type 0 where
+  pub nodes_stand : (k : ℕ) (p : SortIndex) → Among (k, p) nodes → StandsAt g w (at_root i []) [] k p
+  pub are_early : AreEarly g w i early
   pub outers_stand : (one : Called) (p : SortIndex) → Among one called → slice_get imports one.at ≡ Some (Some p)
-      → IsOuterAt g w (at_root i) one.name p
+      → IsOuterAt g w (at_root i []) one.name p
 
 abbrev pub IsBare : Root → Type 0
-IsBare root = (root.entries.items ≡ []) × (root.packages.entries ≡ [])
+IsBare root = (root.entries.items ≡ []) × (root.packages.entries ≡ []) × (root.exported ≡ [])
 
 -- the root is begun, with these outer imports and with the packages
 abbrev pub IsBegunWith : Writing → Worlds → List (Name × Tree) → List Called → Root → Type 0
@@ -52,7 +55,7 @@ Begins x scope old new r =
     (h : WritesWorld w x.all.types.now [] world scope imported [])
     → IsBare old → AreWorldsOf x.graph.now x.all.types.now x.worlds.now.entries
     → AreTold x.options.now.define_components x.graph.now w (names_of x.worlds.now.entries)
-    → IsRooted x.graph.now w called h.writing.inside old.nodes.entries scope.places.items
+    → IsRooted x.graph.now w called h.writing.inside old.nodes.entries old.early.entries scope.places.items
     → OnOk r (IsBegunWith x w h.writing.inside.imports called new)
 
 -- ---- from a new scope on

@@ -117,4 +117,6 @@ pub record ImportsBefore (g : Graph) (c : Collection) (ps : Packages) (scope : I
   pub places : between.places ≡ scope.places
   pub entries : mid.entries ≡ old.entries
   pub nodes : mid.nodes ≡ old.nodes
+  pub early : mid.early ≡ old.early
+  pub exported : mid.exported ≡ old.exported
   pub takes : TakesScope between mid new

@@ -27,6 +27,7 @@ use Rattle.wac_graph_encode.specs.Rooting.{AddsRead, TakesScope}
 pub record KeepsOthers (old new : Root) : Type 0 where
   pub imports : new.imports ≡ old.imports
   pub nodes : new.nodes ≡ old.nodes
+  pub exported : new.exported ≡ old.exported
 
 -- One more component, of those bytes, is nested behind the entries, and the id has its index.
 pub record NestsOne (id : PackageId) (bytes : List ℕ) (old new : Root) : Type 0 where

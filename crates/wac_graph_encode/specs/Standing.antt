@@ -48,6 +48,10 @@ CountsOne s c d = (t : Sort) → counted d t ≡ counted c t + (if same_sort t s
 abbrev pub CountsNext : Sort → Counts → Counts → Type 0
 CountsNext s c d = counted c s < 18446744073709551615 → CountsOne s c d
 
+-- the place of a type
+abbrev pub type_place : ℕ → SortIndex
+type_place k = record { sort = sort.Ty; index = k }
+
 -- the number of an instance: its place in the order in which instances were written
 abbrev pub number_in : List ℕ → ℕ → ℕ
 number_in order k = position_or_len (λ j. j == k) order
@@ -60,6 +64,11 @@ by_number order s = rename (number_in order) s
 pub record Rearranges (xs ys : List (Name × ℕ)) : Type 0 where
   pub distinct : AreDistinct (names_of ys)
   pub kept : (n : Name) → value_at ys n ≡ value_at xs n
+
+-- exports that are written before the others: some of these, each once
+pub record AreFirst (given exports : List (Name × ℕ)) : Type 0 where
+  pub once : AreDistinct (names_of given)
+  pub there : (e : Name × ℕ) → Among e given → value_at exports e.0 ≡ Some e.1
 
 module _ (g : Graph) where
   abbrev pub spelled : Name → Name
@@ -126,24 +135,6 @@ module _ (g : Graph) where
         pub written : (n : Name) → Uses (λ i. Among i order) (instance.args n)
         pub given : (n : Name) → source_at x.1 n ≡ by_number order (instance.args n)
 
-      -- The entries can be read, and their indexes are counted. The outer imports, the packages and these nodes stand; the
-      -- instances are those of the nodes that were written, in that order.
-      pub record IsWritten (asked : List (Name × Tree)) (found : List (Name × SortIndex)) (held : List (PackageId × ℕ))
-          (es : List Entry) (c : Counts) (nodes : List (ℕ × SortIndex)) : Type 0 where
-        pub state : State
-        pub reads : steps worlds start (map view es) ≡ Some state
-        pub counts : (s : Sort) → counted c s ≡ count_of s es
-        pub imports : state.listed.imports ≡ asked
-        pub exports : state.listed.exports ≡ []
-        pub stated : state.stated ≡ []
-        pub outers : (n : Name) (p : SortIndex) → value_at found n ≡ Some p → IsOuterAt state n p
-        pub packages : (id : PackageId) (index : ℕ) → Among (id, index) held → IsPackageAt state id index
-        pub order : List ℕ
-        pub once : AreDistinct order
-        pub stand : (k : ℕ) (p : SortIndex) → Among (k, p) nodes → StandsAt state order k p
-        pub noted : (k : ℕ) → Among k order → Among k (names_of nodes)
-        pub instances : AllZip (IsListed order) order state.listed.instances
-
       -- an export of the graph as it is listed: what its node denotes
       pub record IsExported (order : List ℕ) (x : Name × ℕ) (e : Name × Source ℕ) : Type 0 where
         pub name : e.0 ≡ x.0
@@ -151,6 +142,25 @@ module _ (g : Graph) where
         pub denotes : StandsFor x.1 source
         pub written : Uses (λ i. Among i order) source
         pub is : e.1 ≡ by_number order source
+
+      -- The entries can be read, and their indexes are counted. The outer imports, the packages and these nodes stand, and these
+      -- exports are written; the instances are those of the nodes that were written, in that order.
+      pub record IsWritten (asked : List (Name × Tree)) (found : List (Name × SortIndex)) (held : List (PackageId × ℕ))
+          (given : List (Name × ℕ)) (es : List Entry) (c : Counts) (nodes : List (ℕ × SortIndex)) : Type 0 where
+        pub state : State
+        pub reads : steps worlds start (map view es) ≡ Some state
+        pub counts : (s : Sort) → counted c s ≡ count_of s es
+        pub imports : state.listed.imports ≡ asked
+        pub firsts : AreFirst given g.exports
+        pub stated : state.stated ≡ []
+        pub outers : (n : Name) (p : SortIndex) → value_at found n ≡ Some p → IsOuterAt state n p
+        pub packages : (id : PackageId) (index : ℕ) → Among (id, index) held → IsPackageAt state id index
+        pub order : List ℕ
+        pub once : AreDistinct order
+        pub stand : (k : ℕ) (p : SortIndex) → Among (k, p) nodes → StandsAt state order k p
+        pub exports : AllZip (IsExported order) given state.listed.exports
+        pub noted : (k : ℕ) → Among k order → Among k (names_of nodes)
+        pub instances : AllZip (IsListed order) order state.listed.instances
 
       -- All is written: the instances are those of the graph, in the order in which they were written, and the exports are the
       -- graph's, in some order.

@@ -1,9 +1,9 @@
 -- What writing the nodes of a graph does, one behind those that it needs.
-use Rattle.std.specs.Prelude.{◌≡◌, ◌⊎◌, ◌<◌, ◌≤◌, ℕ, Bool, true, List, ◌++◌, [], ◌∷◌, Option, Some, None, slice_get, option_to_list, Result, OnOk, IfOk, IfSome}
+use Rattle.std.specs.Prelude.{◌≡◌, ◌⊎◌, ◌<◌, ◌≤◌, ℕ, Bool, true, List, ◌++◌, [], ◌∷◌, Option, Some, None, slice_get, option_to_list, filter, not, Result, OnOk, IfOk, IfSome}
 use Rattle.std.specs.List.{AllZip}
 use Rattle.wac_types_base.specs.declared.ids.WorldId.{WorldId}
 use Rattle.wac_types_base.specs.Record.{Collection}
-use Rattle.wac_types_base.specs.Entries.{AreDistinct, Name, names_of, value_at}
+use Rattle.wac_types_base.specs.Entries.{AreDistinct, Name, names_of, value_at, has_name}
 use Rattle.wac_types_base.specs.Graph.{Among}
 use Rattle.wac_types_base.specs.Tree.{Tree}
 use Rattle.wac_graph_bytes.specs.declared.value.Sort.{Sort}
@@ -26,7 +26,7 @@ use Rattle.wac_graph_encode.specs.declared.instances.Wired.{Wired}
 use Rattle.wac_graph_encode.specs.declared.instances.Standing.{Standing}
 use Rattle.wac_graph_scopes.specs.Items.{sort_of}
 use Rattle.wac_graph_encode.specs.Encoding.{nested_at}
-use Rattle.wac_graph_encode.specs.Standing.{counted, CountsNext, IsFinished, IsGivenAt, IsOuterAt, IsWritten, Rearranges}
+use Rattle.wac_graph_encode.specs.Standing.{AreFirst, counted, CountsNext, IsFinished, IsGivenAt, IsOuterAt, IsWritten, Rearranges}
 
 -- ---- entries
 
@@ -42,6 +42,7 @@ pub record AddsIndex (old new : Root) (x : Entry) (s : Sort) (p : SortIndex) : T
   pub counts : CountsNext s old.counts new.counts
   pub index : p ≡ record { sort = s; index = counted old.counts s }
   pub nodes : new.nodes ≡ old.nodes
+  pub exported : new.exported ≡ old.exported
   pub packages : new.packages ≡ old.packages
 
 -- one more instance, of that component
@@ -109,7 +110,8 @@ noted w = w.root.nodes.entries
 -- what is written, where these nodes stand
 abbrev pub WrittenWith : Bool → Worlds → List (Name × Tree) → Wired → List (ℕ × SortIndex) → Type 0
 WrittenWith define worlds asked w nodes =
-    IsWritten w.graph.now worlds define asked w.outers w.root.packages.entries w.root.entries.items w.root.counts nodes
+    IsWritten w.graph.now worlds define asked w.outers w.root.packages.entries w.root.exported w.root.entries.items
+    w.root.counts nodes
 
 abbrev pub WrittenSo : Bool → Worlds → List (Name × Tree) → Wired → Type 0
 WrittenSo define worlds asked w = WrittenWith define worlds asked w (noted w)
@@ -123,11 +125,12 @@ KeepsWritten old new r = (define : Bool) (worlds : Worlds) (asked : List (Name �
 abbrev pub NestsNoMore : Root → Root → Type 0
 NestsNoMore old new = nested_at new.entries.items ≡ nested_at old.entries.items
 
--- the graph, the outer imports and the packages are the same
+-- the graph, the outer imports, the packages and the first exports are the same
 pub record IsSameRoot (old new : Wired) : Type 0 where
   pub graph : new.graph ≡ old.graph
   pub outers : new.outers ≡ old.outers
   pub packages : new.root.packages ≡ old.root.packages
+  pub exported : new.root.exported ≡ old.root.exported
   pub nested : NestsNoMore old.root new.root
 
 -- and what stood stands
@@ -186,7 +189,8 @@ AllAreWritten g nodes = (k : ℕ) → ContainsNode g k → Among k (names_of nod
 -- stands for the outer imports that are asked under these names.
 pub record IsBegun (define : Bool) (worlds : Worlds) (asked : List (Name × Tree)) (called : List Called) (g : Graph)
     (r : Root) : Type 0 where
-  pub written : IsWritten g worlds define asked [] r.packages.entries r.entries.items r.counts r.nodes.entries
+  pub written : IsWritten g worlds define asked [] r.packages.entries r.exported r.entries.items r.counts
+      r.nodes.entries
   pub outers : (one : Called) (p : SortIndex) → Among one called → slice_get r.imports.items one.at ≡ Some (Some p)
       → IsOuterAt g worlds written.state one.name p
 
@@ -214,23 +218,27 @@ pub record AddsExport (nodes : List (ℕ × SortIndex)) (x : Name × ℕ) (old n
   pub added : new ≡ old ++ entry ∷ []
   pub is : IsExportOf nodes x entry
 
--- of the exports those at these places
-abbrev pub exports_at : List (Name × ℕ) → List ℕ → List (Name × ℕ)
-exports_at xs [] = []
-exports_at xs (k ∷ ks) = option_to_list (slice_get xs k) ++ exports_at xs ks
-
 -- one more entry for each export
 pub record AddsExports (nodes : List (ℕ × SortIndex)) (exports : List (Name × ℕ)) (old new : List CodeEntry) : Type 0 where
   pub entries : List CodeEntry
   pub added : new ≡ old ++ entries
   pub are : AllZip (IsExportOf nodes) exports entries
 
--- for each at these places
-abbrev pub AddsAt : List (ℕ × SortIndex) → List (Name × ℕ) → List ℕ → (old new : List CodeEntry) → Type 0
-AddsAt nodes exports places old new = AddsExports nodes (exports_at exports places) old new
+-- those whose names are not among these
+abbrev pub other_exports : List (Name × ℕ) → List (Name × ℕ) → List (Name × ℕ)
+other_exports given xs = filter (λ x. not (has_name (names_of given) x.0)) xs
 
--- in some order
-pub record AddsInOrder (nodes : List (ℕ × SortIndex)) (exports : List (Name × ℕ)) (old new : List CodeEntry) : Type 0 where
+-- of the exports those at these places
+abbrev pub exports_at : List (Name × ℕ) → List ℕ → List (Name × ℕ)
+exports_at xs [] = []
+exports_at xs (k ∷ ks) = option_to_list (slice_get xs k) ++ exports_at xs ks
+
+-- for each at these places whose name is not among these
+abbrev pub AddsAt : List (ℕ × SortIndex) → List (Name × ℕ) → List (Name × ℕ) → List ℕ → (old new : List CodeEntry) → Type 0
+AddsAt nodes given exports places old new = AddsExports nodes (other_exports given (exports_at exports places)) old new
+
+-- in some order, behind those that are written first
+pub record AddsInOrder (nodes : List (ℕ × SortIndex)) (given exports : List (Name × ℕ)) (old new : List CodeEntry) : Type 0 where
   pub listing : List (Name × ℕ)
-  pub rearranged : Rearranges exports listing
+  pub rearranged : AreFirst given exports → Rearranges exports (given ++ listing)
   pub adds : AddsExports nodes listing old new

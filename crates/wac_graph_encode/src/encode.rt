@@ -25,6 +25,7 @@ use crate::forms::written_definitions;
 use crate::instances::Wired;
 use crate::options::{EncodeOptions, Encoded};
 use crate::root::{Writing, write_root};
+use crate::uses::uses_of_instances;
 use crate::world::composed_world;
 use std::alloc::{AllocError, Global};
 use wac_graph_asks::asks::{Asked, Definition, asked_by};
@@ -39,7 +40,7 @@ use wac_graph_causes::names::check_names;
 use wac_graph_causes::writable::check_writable;
 use wac_graph_core::CompositionGraph;
 use wac_graph_scopes::imports::Importing;
-use wac_types_base::{Types, WorldId};
+use wac_types_base::{NamedMap, Types, UsedType, WorldId};
 
 /// The names for debuggers, or none where they do not fit in 32 bits: no component is refused for them.
 fn names_that_fit(alloc: Global, names: Vec<SortNames>) -> Result<Vec<SortNames>, AllocError>
@@ -101,6 +102,39 @@ fn bytes_wired(writing: Writing<'_>, wired: &mut Wired<'_>) -> Result<Vec<u8>, B
     bytes_of_entries(alloc, &wired.root.entries, names, writing.options)
 }
 
+/// The bytes of a composition, of which these imports are used types.
+fn bytes_with_uses(
+    graph: &CompositionGraph,
+    asked: &Asked,
+    outers: &Outers,
+    uses: &NamedMap<UsedType>,
+    definitions: &[Definition],
+    options: &EncodeOptions,
+) -> Result<Vec<u8>, BytesError>
+    requires there { IsThere graph.now asked.now outers.now definitions.now }
+    requires all { HasAllOf graph.now (names_of asked.now.packages.entries) definitions.now }
+    ensures means { MeansAsked graph.now asked.now outers.now definitions.now options.now result }
+    ensures nests { NestsSo options.now.define_components graph.now (names_of asked.now.packages.entries) result }
+    ensures unfit { UnfitAsked graph.now asked.now outers.now definitions.now options.now result }
+{
+    let all = Importing {
+        types: &asked.types,
+        world: outers.world,
+        called: outers.called.as_slice(),
+        uses,
+        over_exports: false,
+    };
+    let writing = Writing {
+        graph,
+        worlds: &asked.packages,
+        all,
+        definitions,
+        options,
+    };
+    let mut wired = Wired::new(graph.alloc(), graph);
+    bytes_wired(writing, &mut wired)
+}
+
 /// The bytes of a composition.
 fn bytes_of(
     graph: &CompositionGraph,
@@ -115,21 +149,8 @@ fn bytes_of(
     ensures nests { NestsSo options.now.define_components graph.now (names_of asked.now.packages.entries) result }
     ensures unfit { UnfitAsked graph.now asked.now outers.now definitions.now options.now result }
 {
-    let all = Importing {
-        types: &asked.types,
-        world: outers.world,
-        called: outers.called.as_slice(),
-        over_exports: false,
-    };
-    let writing = Writing {
-        graph,
-        worlds: &asked.packages,
-        all,
-        definitions,
-        options,
-    };
-    let mut wired = Wired::new(graph.alloc(), graph);
-    bytes_wired(writing, &mut wired)
+    let uses = uses_of_instances(graph, asked)?;
+    bytes_with_uses(graph, asked, outers, &uses, definitions, options)
 }
 
 /// The world of a composition, in a collection of this number.

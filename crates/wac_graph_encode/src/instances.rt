@@ -11,15 +11,16 @@ ghost use Rattle.wac_graph_scopes.specs.Items.{sort_of};
 ghost use Rattle.wac_graph_encode.specs.Beginning.{IsBare};
 ghost use Rattle.wac_graph_encode.specs.Ready.{AddsNames, AddsSource, AllStand, AllStandUnder, ArePlacedAt, AreThere, CanBeAlias, CanBePassed, HasNeeded};
 ghost use Rattle.wac_graph_encode.specs.Ready.{IsPlacedAt, IsReady, IsReadyWith, IsUnsorted, NeededStand, StandsUnder, called_names};
-ghost use Rattle.wac_graph_encode.specs.Writing.{Finishes, AddsArgument, AddsCalled, AddsEntry, AddsExport, AddsAt, AddsInOrder, AddsGiven, AddsNeeded, AddsOnly, AreCalled, AreGivenIn, Below, GivesUnder, IsAliasAt, IsSameRoot, KeepsNodes, KeepsWritten, PassesAll, UpTo, UpToOne, WritesInstance, WritesNode, exported_as, noted, NestsNoMore, AllAreWritten};
+ghost use Rattle.wac_graph_encode.specs.Writing.{Finishes, AddsArgument, AddsCalled, AddsExport, AddsExports, AddsAt, AddsInOrder, other_exports, AddsGiven, AddsNeeded, AddsOnly, AreCalled, AreGivenIn, Below, GivesUnder, IsAliasAt, IsSameRoot, KeepsNodes, KeepsWritten, PassesAll, UpTo, UpToOne, WritesInstance, WritesNode, noted, NestsNoMore, AllAreWritten};
 
+use crate::declarations::push_export;
 use crate::exports::export_order;
 use crate::labels::names_of_nodes;
-use crate::root::{Root, push_entry};
+use crate::root::Root;
 use indexmap::IndexMap;
 use std::alloc::{AllocError, Global};
 use wac_graph_asks::nodes::{Arguments, import_name, kind_of, package_of, world_at};
-use wac_graph_bytes::{Entry, Export, NamedIndex, Sort, SortNames};
+use wac_graph_bytes::{Entry, NamedIndex, Sort, SortNames};
 use wac_graph_core::{CompositionGraph, NodeId, PackageId};
 use wac_graph_scopes::imports::{Called, SortIndex};
 use wac_graph_scopes::parts::{import_at, import_count};
@@ -271,25 +272,6 @@ fn arguments_in(
     Ok(arguments)
 }
 
-/// Adds an export.
-fn push_export(
-    alloc: Global,
-    entries: &mut Vec<Entry>,
-    name: &str,
-    place: SortIndex,
-) -> Result<(), AllocError>
-    ensures { OnOk result (AddsEntry entries.old.items entries.new.items (exported_as name.now place)) }
-{
-    let name = String::from_str(alloc, name)?;
-    let export = Export {
-        name,
-        sort: place.sort,
-        index: place.index,
-        stated: None,
-    };
-    push_entry(entries, Entry::Export(export))
-}
-
 /// Adds the export of a node that stands.
 fn export_node(
     alloc: Global,
@@ -307,51 +289,79 @@ fn export_node(
     }
 }
 
-/// Adds the export at a place of a graph, all of whose nodes stand.
+/// Adds the export of a node that stands, unless one of its name is among these.
+fn export_other(
+    alloc: Global,
+    nodes: &IndexMap<NodeId, SortIndex>,
+    exported: &NamedMap<NodeId>,
+    name: &str,
+    node: NodeId,
+    entries: &mut Vec<Entry>,
+) -> Result<(), AllocError>
+    requires { Among node (names_of nodes.now.entries) }
+    ensures { OnOk result (AddsExports nodes.now.entries (other_exports exported.now ((name.now, node) ∷ []))
+        entries.old.items entries.new.items) }
+{
+    if exported.contains(name) {
+        return Ok(());
+    }
+    export_node(alloc, nodes, name, node, entries)
+}
+
+/// Adds the export at a place of a graph, all of whose nodes stand, unless one of its name is among these.
 fn export_at(
     graph: &CompositionGraph,
     nodes: &IndexMap<NodeId, SortIndex>,
+    exported: &NamedMap<NodeId>,
     at: usize,
     entries: &mut Vec<Entry>,
 ) -> Result<(), AllocError>
     requires { AllAreWritten graph.now nodes.now.entries }
-    ensures { OnOk result (AddsAt nodes.now.entries graph.now.exports (at ∷ []) entries.old.items entries.new.items) }
+    ensures { OnOk result (AddsAt nodes.now.entries exported.now graph.now.exports (at ∷ [])
+        entries.old.items entries.new.items) }
 {
     graph.see_sound();
     match graph.exports().get(at) {
-        Some((name, node)) => export_node(graph.alloc(), nodes, name.as_str(), *node, entries),
+        Some((name, node)) => {
+            let name = name.as_str();
+            export_other(graph.alloc(), nodes, exported, name, *node, entries)
+        }
         None => Ok(()),
     }
 }
 
-/// Adds the exports at these places.
+/// Adds the exports at these places, but those whose names are among these.
 fn push_in_order(
     graph: &CompositionGraph,
     nodes: &IndexMap<NodeId, SortIndex>,
+    exported: &NamedMap<NodeId>,
     order: &[usize],
     entries: &mut Vec<Entry>,
 ) -> Result<(), AllocError>
     requires { AllAreWritten graph.now nodes.now.entries }
-    ensures { OnOk result (AddsAt nodes.now.entries graph.now.exports order.now entries.old.items entries.new.items) }
+    ensures { OnOk result (AddsAt nodes.now.entries exported.now graph.now.exports order.now
+        entries.old.items entries.new.items) }
 {
     for at in order {
-        export_at(graph, nodes, *at, entries)?;
+        export_at(graph, nodes, exported, *at, entries)?;
     }
     Ok(())
 }
 
-/// Adds the exports of a graph, all of whose nodes stand, each behind those that it uses.
+/// Adds the exports of a graph, all of whose nodes stand, each behind those that it uses; these are there already.
 fn push_exports(
     graph: &CompositionGraph,
     nodes: &IndexMap<NodeId, SortIndex>,
+    exported: &NamedMap<NodeId>,
     entries: &mut Vec<Entry>,
 ) -> Result<(), AllocError>
     requires { AllAreWritten graph.now nodes.now.entries }
-    ensures { OnOk result (AddsInOrder nodes.now.entries graph.now.exports entries.old.items entries.new.items) }
+    ensures { OnOk result (AddsInOrder nodes.now.entries exported.now graph.now.exports
+        entries.old.items entries.new.items) }
 {
     graph.see_sound();
     let order = export_order(graph)?;
-    push_in_order(graph, nodes, order.as_slice(), entries)
+    push_in_order(graph, nodes, exported, order.as_slice(), entries)
 }
 
 impl<'a> Wired<'a> {
@@ -585,7 +595,13 @@ impl<'a> Wired<'a> {
         self.graph.see_sound();
         add_outers(self.alloc, called, &self.root.imports, &mut self.outers)?;
         self.write_nodes()?;
-        push_exports(self.graph, &self.root.nodes, &mut self.root.entries)?;
+        let Root {
+            entries,
+            nodes,
+            exported,
+            ..
+        } = &mut self.root;
+        push_exports(self.graph, nodes, exported, entries)?;
         let names = names_of_nodes(self.graph, &self.root.nodes)?;
         Ok(names)
     }

@@ -2,6 +2,7 @@
 #![tactic(auto)]
 
 mod copying;
+mod declarations;
 pub mod encode;
 mod exports;
 mod fault;
@@ -11,6 +12,7 @@ mod labels;
 mod laws;
 pub mod options;
 mod root;
+mod uses;
 mod without_uses;
 mod world;
 

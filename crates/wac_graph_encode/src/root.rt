@@ -1,32 +1,34 @@
 //! The types and the imports of a composition, as entries.
 
-ghost use Rattle.std.specs.Prelude.{◌≡◌, ◌+◌, ◌<◌, ◌++◌, [], ◌∷◌, ℕ, List, IfOk, OnOk, if◌then◌else◌, map, option_to_list};
+ghost use Rattle.std.specs.Prelude.{◌≡◌, ◌+◌, ◌<◌, ◌++◌, [], ◌∷◌, ℕ, List, Some, true, false, IfOk, OnOk, if◌then◌else◌, map, option_map, option_to_list};
 ghost use Rattle.wac_types_base.specs.Record.{Collection};
-ghost use Rattle.wac_types_base.specs.Entries.{names_of};
+ghost use Rattle.wac_types_base.specs.Entries.{names_of, value_at};
+ghost use Rattle.wac_types_base.specs.declared.item.«Type».{«Type» as TypeKind};
+ghost use Rattle.wac_types_base.specs.declared.item.ValueType.{ValueType};
 ghost use Rattle.wac_graph_bytes.specs.declared.value.Sort.{Sort as SortKind};
 ghost use Rattle.wac_graph_bytes.specs.Counting.{same_sort};
-ghost use Rattle.wac_graph_bytes.specs.Entries.{Aliased, End, ExportAlias, Nested};
-ghost use Rattle.wac_graph_bytes.specs.Views.{view, before, declarations_of};
+ghost use Rattle.wac_graph_bytes.specs.Entries.{Aliased, ExportAlias, Nested};
+ghost use Rattle.wac_graph_bytes.specs.Views.{view};
 ghost use Rattle.wac_graph_bytes.specs.Typing.{Scope, Worlds};
 ghost use Rattle.wac_graph_scopes.specs.Scopes.{AreKnown};
 ghost use Rattle.wac_graph_scopes.specs.Items.{HasEntry};
 ghost use Rattle.wac_graph_scopes.specs.Imports.{WritesInOrder};
-ghost use Rattle.wac_graph_scopes.specs.Roots.{root_entries};
 ghost use Rattle.wac_graph_encode.specs.Standing.{counted, CountsNext};
 ghost use Rattle.wac_graph_encode.specs.Writing.{AddsEntry, AddsIndex, AddsInstance};
-ghost use Rattle.wac_graph_encode.specs.Rooting.{AddsRead, IsNewScope, ReadsAtRoot, TakesScope, WritesItem, WritesOuters, WritesOwn, counter};
-ghost use Rattle.wac_graph_encode.specs.Defining.{AddsDefinitions, WritesDefinition, WritesDefinitions};
+ghost use Rattle.wac_graph_encode.specs.Rooting.{IsNewScope, ReadsAtRoot, TakesScope, WritesItem, WritesOuters, WritesOwn, counter};
+ghost use Rattle.wac_graph_encode.specs.Defining.{AddsDefinitions, ExportsDefinition, NotesEarly, PutsDefined, PutsValue, WritesDefinition, WritesDefinitions};
 ghost use Rattle.wac_graph_encode.specs.Beginning.{Begins, BeginsRoot, HoldsAll, HoldsTaken, IsToBegin, NestsThese};
 ghost use Rattle.wac_graph_encode.specs.Ready.{AddsNames, HoldsThese};
 ghost use Rattle.wac_graph_encode.specs.Nesting.{NestsAll, NestsBehind, NestsOne, bytes_of};
 ghost use Rattle.wac_graph_encode.specs.Importing.{ImportsAll, ImportsBefore, ImportsComponent, ImportsPackage};
 
+use crate::declarations::{Early, add_entries, push_entry};
 use crate::options::EncodeOptions;
 use indexmap::IndexMap;
 use std::alloc::{AllocError, Global};
 use wac_graph_asks::asks::Definition;
 use wac_graph_asks::nodes::package_at;
-use wac_graph_bytes::{Alias, Declaration, Description, Entry, NamedIndex, Sort};
+use wac_graph_bytes::{Alias, Description, Entry, NamedIndex, Sort};
 use wac_graph_causes::names::dependency_name;
 use wac_graph_core::{CompositionGraph, NodeId, PackageId};
 use wac_graph_scopes::fault::WriteError;
@@ -35,7 +37,7 @@ use wac_graph_scopes::items::ItemScope;
 use wac_graph_scopes::parts::Item;
 use wac_graph_scopes::scope::KnownTypes;
 use wac_graph_scopes::worlds::describe_package;
-use wac_types_base::{ItemKind, Types, WorldId};
+use wac_types_base::{DefinedTypeId, ItemKind, NamedMap, Text, Type, Types, ValueType, WorldId};
 
 /// How many things of each sort stand there.
 #[derive(Clone, Copy)]
@@ -55,6 +57,10 @@ pub(crate) struct Root {
     pub imports: Vec<Option<SortIndex>>,
     /// What stands for the definitions.
     pub nodes: IndexMap<NodeId, SortIndex>,
+    /// The definitions that are exported where they are written, by the indexes of their types.
+    pub early: IndexMap<u64, Early>,
+    /// What is exported, by its names.
+    pub exported: NamedMap<NodeId>,
     /// The components that are packages.
     pub packages: IndexMap<PackageId, u64>,
 }
@@ -66,6 +72,8 @@ impl Drop for Root {
             counts: _,
             imports: _,
             nodes: _,
+            early: _,
+            exported: _,
             packages: _,
         } = self;
     }
@@ -76,14 +84,6 @@ pub(crate) fn next_index(index: u64) -> u64
     ensures { index < 18446744073709551615 → result ≡ index + 1 }
 {
     index.saturating_add(1)
-}
-
-/// Adds an entry.
-pub(crate) fn push_entry(entries: &mut Vec<Entry>, entry: Entry) -> Result<(), AllocError>
-    ensures { OnOk result (entries.new.items ≡ entries.old.items ++ entry ∷ []) }
-{
-    entries.push(entry)?;
-    Ok(())
 }
 
 /// Writes the outer imports at places.
@@ -154,11 +154,17 @@ fn write_definition(
 struct Defined {
     known: KnownTypes,
     nodes: IndexMap<NodeId, SortIndex>,
+    /// Those that are exported where they are written, by the indexes of their types.
+    early: IndexMap<u64, Early>,
 }
 
 impl Drop for Defined {
     fn drop(self) {
-        let Defined { known: _, nodes: _ } = self;
+        let Defined {
+            known: _,
+            nodes: _,
+            early: _,
+        } = self;
     }
 }
 
@@ -167,20 +173,113 @@ impl Defined {
     fn new(alloc: Global) -> Self
         ensures known { (w : Worlds) (ss : List Scope) (c : Collection) → AreKnown w ss c result.known }
         ensures nodes { result.nodes.entries ≡ [] }
+        ensures early { result.early.entries ≡ [] }
     {
         Defined {
             known: KnownTypes::new(alloc),
             nodes: IndexMap::new(alloc),
+            early: IndexMap::new(alloc),
         }
     }
 
-    /// What stands for the nodes.
-    fn into_nodes(self) -> IndexMap<NodeId, SortIndex>
-        ensures { result ≡ self.nodes }
+    /// What stands for the nodes, and those that are exported where they are written.
+    fn into_parts(self) -> (IndexMap<NodeId, SortIndex>, IndexMap<u64, Early>)
+        ensures nodes { result.0 ≡ self.nodes }
+        ensures early { result.1 ≡ self.early }
     {
-        let Defined { known: _, nodes } = self;
-        nodes
+        let Defined {
+            known: _,
+            nodes,
+            early,
+        } = self;
+        (nodes, early)
     }
+
+    /// Puts the index of a definition's export in place of that of its type.
+    fn put_known(&mut self, types: &Types, ty: Type, index: u64) -> Result<(), AllocError>
+        ensures known { PutsDefined types.now ty index self.old self.new result }
+        ensures nodes { self.new.nodes ≡ self.old.nodes }
+        ensures early { self.new.early ≡ self.old.early }
+    {
+        match ty {
+            Type::Value(ValueType::Defined(id)) => self.put_defined(types, id, index),
+            _ => Ok(()),
+        }
+    }
+
+    /// The same of a defined type, and of what stands at the end of its aliases.
+    fn put_defined(
+        &mut self,
+        types: &Types,
+        id: DefinedTypeId,
+        index: u64,
+    ) -> Result<(), AllocError>
+        ensures known { PutsDefined types.now (TypeKind.Value (ValueType.Defined id)) index self.old self.new result }
+        ensures nodes { self.new.nodes ≡ self.old.nodes }
+        ensures early { self.new.early ≡ self.old.early }
+    {
+        let ty = ValueType::Defined(id);
+        if !types.has(ItemKind::Value(ty)) {
+            return Ok(());
+        }
+        if !types.has(ItemKind::Ty(Type::Value(ty))) {
+            return Ok(());
+        }
+        types.see_acyclic();
+        let end = types.resolve_value_type(ty);
+        self.put_end(end, index)?;
+        self.known.put(id, index)
+    }
+
+    fn put_end(&mut self, ty: ValueType, index: u64) -> Result<(), AllocError>
+        ensures known { PutsValue ty index self.old self.new result }
+        ensures nodes { self.new.nodes ≡ self.old.nodes }
+        ensures early { self.new.early ≡ self.old.early }
+    {
+        match ty {
+            ValueType::Defined(id) => self.known.put(id, index),
+            _ => Ok(()),
+        }
+    }
+
+    /// Notes that a definition is exported where it is written, whose type is at that index.
+    fn note_early(&mut self, definition: &Definition, index: u64) -> Result<(), AllocError>
+        ensures { OnOk result (NotesEarly definition.now index self.old self.new) }
+    {
+        let name = definition.name.copy()?;
+        let node = definition.node;
+        let _ = self.early.insert(index, Early { name, node })?;
+        Ok(())
+    }
+}
+
+/// Whether a definition is exported under its name.
+fn is_exported(graph: &CompositionGraph, definition: &Definition) -> bool
+    ensures { result ≡ true → value_at graph.now.exports definition.now.name ≡ Some definition.now.node }
+{
+    match graph.get_export(definition.name.as_str()) {
+        Some(node) => node == definition.node,
+        None => false,
+    }
+}
+
+/// Exports a definition, whose type is at that index, where it is written: the index that stands for it from then on.
+fn export_definition(
+    graph: &CompositionGraph,
+    scope: &mut ImportScope,
+    definition: &Definition,
+    index: u64,
+    defined: &mut Defined,
+) -> Result<u64, WriteError>
+    ensures { ExportsDefinition graph.now definition.now index scope.old defined.old scope.new defined.new result }
+{
+    if !is_exported(graph, definition) {
+        return Ok(index);
+    }
+    let own = scope.scope.repeat_type(index)?;
+    defined.put_known(graph.types(), definition.ty, own)?;
+    defined.note_early(definition, index)?;
+    Ok(own)
 }
 
 /// Writes a definition, and adds what stands for it.
@@ -195,6 +294,7 @@ fn add_definition(
 {
     let description = write_definition(graph, scope, all, &mut defined.known, definition)?;
     if let Description::Equal(index) = description {
+        let index = export_definition(graph, scope, definition, index, defined)?;
         let sort = Sort::Ty;
         let _ = defined
             .nodes
@@ -220,18 +320,19 @@ fn add_definitions(
 }
 
 /// Writes the definitions: types of the graph's collection, and copies in the asked one. It answers what stands for their
-/// nodes.
+/// nodes, and those that are exported where they are written.
 fn write_definitions(
     graph: &CompositionGraph,
     scope: &mut ImportScope,
     all: Importing<'_>,
     definitions: &[Definition],
-) -> Result<IndexMap<NodeId, SortIndex>, WriteError>
-    ensures { IfOk result (λ nodes. WritesDefinitions graph.now all.entry definitions.now scope.old scope.new nodes.entries) }
+) -> Result<(IndexMap<NodeId, SortIndex>, IndexMap<u64, Early>), WriteError>
+    ensures { IfOk result (λ p. WritesDefinitions graph.now all.entry definitions.now
+        scope.old scope.new p.0.entries p.1.entries) }
 {
     let mut defined = Defined::new(graph.alloc());
     add_definitions(graph, scope, all, definitions, &mut defined)?;
-    Ok(defined.into_nodes())
+    Ok(defined.into_parts())
 }
 
 /// Imports a component of that world under that name: its index.
@@ -285,41 +386,6 @@ fn import_packages(
 {
     for (id, world) in worlds.iter() {
         import_package(graph, scope, types, *id, *world, packages)?;
-    }
-    Ok(())
-}
-
-/// The declaration as an entry. An export is none.
-fn entry_of(declaration: Declaration) -> Option<Entry>
-    ensures { map view (option_to_list result) ≡ root_entries (before declaration End) }
-{
-    match declaration {
-        Declaration::Module(declarations) => Some(Entry::Module(declarations)),
-        Declaration::Defined(ty) => Some(Entry::Defined(ty)),
-        Declaration::ComponentType(declarations) => Some(Entry::ComponentType(declarations)),
-        Declaration::InstanceType(declarations) => Some(Entry::InstanceType(declarations)),
-        Declaration::Alias(alias) => Some(Entry::Alias(alias)),
-        Declaration::Import(name, description) => Some(Entry::Import(name, description)),
-        Declaration::Export(_, _) => None,
-    }
-}
-
-/// Adds a declaration as an entry.
-fn add_entry(entries: &mut Vec<Entry>, declaration: Declaration) -> Result<(), AllocError>
-    ensures { OnOk result (AddsRead entries.old.items entries.new.items (root_entries (before declaration End))) }
-{
-    match entry_of(declaration) {
-        Some(entry) => push_entry(entries, entry),
-        None => Ok(()),
-    }
-}
-
-/// Adds declarations as entries.
-fn add_entries(entries: &mut Vec<Entry>, declarations: Vec<Declaration>) -> Result<(), AllocError>
-    ensures { OnOk result (AddsRead entries.old.items entries.new.items (root_entries (declarations_of declarations.items))) }
-{
-    for declaration in declarations {
-        add_entry(entries, declaration)?;
     }
     Ok(())
 }
@@ -391,6 +457,7 @@ impl Root {
     pub(crate) fn new(alloc: Global) -> Self
         ensures entries { result.entries.items ≡ [] }
         ensures nodes { result.nodes.entries ≡ [] }
+        ensures exported { result.exported ≡ [] }
         ensures packages { result.packages.entries ≡ [] }
     {
         Root {
@@ -404,6 +471,8 @@ impl Root {
             },
             imports: Vec::new(alloc),
             nodes: IndexMap::new(alloc),
+            early: IndexMap::new(alloc),
+            exported: NamedMap::new(alloc),
             packages: IndexMap::new(alloc),
         }
     }
@@ -487,7 +556,14 @@ fn take_scope(alloc: Global, scope: &mut ImportScope, root: &mut Root) -> Result
 {
     root.counts = counts_of(&scope.scope);
     root.imports = scope.take_places(alloc);
-    add_entries(&mut root.entries, scope.scope.take_declarations(alloc))
+    let declarations = scope.scope.take_declarations(alloc);
+    add_entries(
+        alloc,
+        &mut root.entries,
+        declarations,
+        &root.early,
+        &mut root.exported,
+    )
 }
 
 /// What is written at the root, and how.
@@ -570,7 +646,9 @@ fn write_in(
     graph.types().see_acyclic();
     all.types.see_acyclic();
     write_outers(graph.alloc(), all, scope)?;
-    root.nodes = write_definitions(graph, scope, all, definitions)?;
+    let (nodes, early) = write_definitions(graph, scope, all, definitions)?;
+    root.nodes = nodes;
+    root.early = early;
     write_packages(writing, scope, root)
 }
 

@@ -25,7 +25,7 @@ use Rattle.wac_graph_scopes.specs.declared.scope.TypeScope.{TypeScope}
 use Rattle.wac_graph_scopes.specs.declared.items.ItemScope.{ItemScope}
 use Rattle.wac_graph_scopes.specs.Scopes.{Extends, AreKnown, IsScope, Exchanges, Goes}
 use Rattle.wac_graph_scopes.specs.Used.{Used, used_at}
-use Rattle.wac_graph_scopes.specs.Items.{IsItemScope, ItemsGo, ExportsItem, ExportsIndex, IsTypeItem, AreUsed, AreAround, HasType, adds_core, HasCore, count_of, with_count, HasItem, GivesItem, IsInstanceAt}
+use Rattle.wac_graph_scopes.specs.Items.{IsItemScope, ItemsGo, ExportsItem, ExportsIndex, IsTypeItem, AreUsed, AreAround, HasType, adds_core, HasCore, count_of, with_count, HasItem, GivesItem, GivesMeaning, IsInstanceAt}
 use Rattle.wac_graph_scopes.proofs.ScopeLaws.{Extends-refl, Extends-trans, Extends-one, type_added, scope_at}
 
 -- ---- what stands on
@@ -230,7 +230,7 @@ module _ (w : Worlds) (c : Collection) (outer : List Scope) where
 
   -- ---- aliases
 
-  outer_reads : (i : Inside) (depth k : ℕ) (m : Meaning) → found_at (i.here ∷ outer) depth sort.Ty k ≡ Some m → declared w outer i (before (Alias (alias.Outer sort.Ty depth k)) End) ≡ Some (adds_inside sort.Ty m i)
+  pub outer_reads : (i : Inside) (depth k : ℕ) (m : Meaning) → found_at (i.here ∷ outer) depth sort.Ty k ≡ Some m → declared w outer i (before (Alias (alias.Outer sort.Ty depth k)) End) ≡ Some (adds_inside sort.Ty m i)
   unfolding declared
   outer_reads i depth k m e = ap (λ (o : Option Meaning). o >>= λ m. Some (adds_inside sort.Ty m i)) e
 
@@ -242,6 +242,10 @@ module _ (w : Worlds) (c : Collection) (outer : List Scope) where
   outer_aliased i depth k t u r a adds =
       let b = bind_some (found_at (i.here ∷ outer) depth sort.Ty k) (type_tree w) a.there a.reads in
       IfOk-weaker r _ _ (λ own h. record { after = adds_inside sort.Ty b.0 i; goes = h.goes; index = last_meaning i b.0 own t a.there h.index b.2 a.item }) (adds b.0 (outer_reads i depth k b.0 b.1))
+
+  pub repeated : {E : Type 0} (i : Inside) (k : ℕ) (m : Meaning) (u : ItemScope) (r : Result ℕ E) → slice_get i.here.types k ≡ Some m
+      → IfOk r (HasType w c outer i m u) → IfOk r (GivesMeaning w c outer i m u)
+  repeated i k m u r at adds = IfOk-weaker r _ _ (λ own h. record { after = adds_inside sort.Ty m i; goes = h.goes; index = get_last i.here.types m own h.index }) adds
 
   export_reads : (i : Inside) (k : ℕ) (n : String Global) (m : Meaning) (t u x : Tree) → found (i.here ∷ outer) sort.Instance k ≡ Some m → item_tree w m ≡ Some t → export_named (string_bytes n) t ≡ Some u → type_in u ≡ Some x
       → declared w outer i (before (Alias (alias.Export sort.Ty k n)) End) ≡ Some (adds_inside sort.Ty (Part m sort.Ty (string_bytes n)) i)

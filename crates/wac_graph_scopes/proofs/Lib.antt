@@ -6,7 +6,7 @@ pub mod FormLaws
 pub mod ValueLaws
 pub mod EntryLaws
 pub mod HandleLaws
-pub mod RootLaws
+pub mod LackingLaws
 pub mod ExportLaws
 pub mod InsideLaws
 pub mod KnownLaws
@@ -19,6 +19,7 @@ pub mod PartLaws
 pub mod UsedNames
 pub mod UsedLaws
 pub mod OrderLaws
+pub mod RootLaws
 pub mod FoundLaws
 pub mod WritingLaws
 pub mod ImportLaws

@@ -1,23 +1,30 @@
 -- The types that are known, and how they are found.
-use Rattle.std.proofs.Common.{◌≡◌, ℕ, ◌+◌, ◌<◌, Bool, true, false, cond, List, [], ◌∷◌, ◌++◌, length, Option, Some, None, inl, inr, refl, sym, ap, ◌∙◌, subst, arith}
-use Rattle.std.specs.Prelude.{slice_get, nat_eq, IfNone, ◌⊎◌, is_some}
+use Rattle.std.proofs.Common.{rules, ◌≡◌, ◌↔◌, ℕ, ◌+◌, ◌<◌, Bool, true, false, cond, IsTrue, List, [], ◌∷◌, ◌++◌, length, Option, Some, None, inl, inr, refl, sym, ap, ◌∙◌, subst, arith}
+use Rattle.std.specs.Prelude.{slice_get, nat_eq, IfNone, IfSome, ◌⊎◌, is_some}
 use Rattle.std.proofs.lemmas.Bool.{cases_eq}
 use Rattle.std.specs.Map.{lookup}
 use Rattle.wac_types_base.specs.contracts.ids.DefinedTypeIdPartialEq.TheImpl.{eq-value}
+use Rattle.wac_types_base.specs.contracts.ids.ResourceIdPartialEq.TheImpl.{eq-value as same_resource}
 use Rattle.wac_types_base.specs.declared.ids.DefinedTypeId.{DefinedTypeId}
+use Rattle.wac_types_base.specs.declared.ids.ResourceId.{ResourceId}
+use Rattle.wac_types_base.specs.declared.item.ValueType.{ValueType}
+use Rattle.wac_types_base.specs.declared.item.«Type».{«Type» as TypeKind}
+use Rattle.wac_types_base.specs.declared.item.ItemKind.{ItemKind}
 use Rattle.wac_types_base.specs.Record.{Collection}
 use Rattle.wac_types_base.specs.Graph.{Among}
 use Rattle.wac_types_base.specs.Tree.{Tree}
 use Rattle.wac_types_base.proofs.Walking.{slice_get-Among}
 use Rattle.wac_types_fit.proofs.Items.{Among-last}
-use Rattle.wac_graph_bytes.specs.Typing.{Worlds, Scope, Inside}
+use Rattle.wac_types_fit.specs.Trees.{tree_in}
+use Rattle.wac_graph_bytes.specs.declared.value.ValueType.TheVariants.{Index}
+use Rattle.wac_graph_bytes.specs.Typing.{Worlds, Scope, Inside, value_of}
 use Rattle.wac_graph_bytes.proofs.Steps.{get_kept, get_last}
 use Rattle.wac_graph_scopes.specs.declared.scope.KnownType.{KnownType}
 use Rattle.wac_graph_scopes.specs.declared.scope.KnownTypes.{KnownTypes}
 use Rattle.wac_graph_scopes.specs.declared.scope.TypeScope.{TypeScope}
 use Rattle.wac_graph_scopes.specs.Prints.{tree_print, type_print, ArePrints}
 use Rattle.wac_graph_scopes.specs.Known.{type_tree, HasPlace, FindsPrint, HasPrint, ArePlaces, HasId, HasTree, IsFound, DiffersAt, KeepsKnown}
-use Rattle.wac_graph_scopes.specs.Scopes.{IsScope, IsScopeOf, KeepsScope}
+use Rattle.wac_graph_scopes.specs.Scopes.{IsEntry, IsScope, IsScopeOf, KeepsScope}
 use Rattle.wac_graph_scopes.proofs.PrintLaws.{same_id}
 use Rattle.wac_graph_scopes.proofs.ScopeLaws.{scope_known}
 
@@ -142,9 +149,37 @@ none_has_tree c ks t differs h f =
 -- ---- scopes
 
 -- the same, but for places and numbers
-pub scope_printed : (w : Worlds) (c : Collection) (outer : List Scope) (i : Inside) (s : TypeScope) (ks : KnownTypes) → ks.all.items ≡ s.known.all.items → ArePlaces c ks → IsScope w c outer i s → IsScope w c outer i (record s { known = ks })
-scope_printed w c outer i s ks items places h =
-    scope_known w c outer i s ks h (record { each = λ k m. h.known.each k (subst (λ (l : List KnownType). Among k l) items m); places = places })
+pub scope_printed : (w : Worlds) (c : Collection) (outer : List Scope) (i : Inside) (s : TypeScope) (ks : KnownTypes) → ks.all.items ≡ s.known.all.items → ks.resources ≡ s.known.resources → ArePlaces c ks → IsScope w c outer i s → IsScope w c outer i (record s { known = ks })
+scope_printed w c outer i s ks items es places h =
+    scope_known w c outer i s ks h (record {
+      each = λ k m. h.known.each k (subst (λ (l : List KnownType). Among k l) items m);
+      places = places;
+      resources = λ r k e. h.known.resources r k (ap (λ m. lookup (same_resource.it r) m.entries) (sym es) ∙ e);
+    })
+
+-- a resource is remembered by its entry
+same_entry : (a b : ResourceId) → IsTrue (same_resource.it a b) ↔ (a ≡ b)
+same_entry a b = search rules
+
+pub scope_has_entry : (w : Worlds) (c : Collection) (outer : List Scope) (i : Inside) (s : TypeScope) (ks : KnownTypes) (r : ResourceId) (k : ℕ) → IsScope w c outer i s → IsEntry w (i.here ∷ outer) c r k
+    → ((x : ResourceId) → lookup (same_resource.it x) ks.resources.entries ≡ cond (same_resource.it r x) (Some k) (lookup (same_resource.it x) s.known.resources.entries))
+    → ks.all ≡ s.known.all → ks.places ≡ s.known.places → IsScope w c outer i (record s { known = ks })
+scope_has_entry w c outer i s ks r k h e updates all places =
+    scope_known w c outer i s ks h (record {
+      each = λ x m. h.known.each x (subst (Among x) items m);
+      places = places_printed c s.known ks items (ap (λ p. p.by_id.entries) places) (λ n f. subst (λ p. FindsPrint p.by_print.entries n) (sym places) f) (subst (λ p. ArePrints c p.prints) (sym places) h.known.places.prints) h.known.places;
+      resources = λ x n at. by x n (same_resource.it r x) refl (sym (updates x) ∙ at);
+    })
+  where
+    items : ks.all.items ≡ s.known.all.items
+    items = ap (λ v. v.items) all
+
+    by : (x : ResourceId) (n : ℕ) (b : Bool) → same_resource.it r x ≡ b → cond b (Some k) (lookup (same_resource.it x) s.known.resources.entries) ≡ Some n → IsEntry w (i.here ∷ outer) c x n
+    by x n true q a =
+        let same : r ≡ x = (same_entry r x).0 q in
+        let index : k ≡ n = cc a in
+        subst (λ (y : ResourceId). IsEntry w (i.here ∷ outer) c y n) same (subst (IsEntry w (i.here ∷ outer) c r) index e)
+    by x n false q a = h.known.resources x n a
 
 pub scope_of_on : (c : Collection) (s u : TypeScope) → KeepsScope c s u → IsScopeOf c s → IsScopeOf c u
 scope_of_on c s u keeps h = (h.0, h.1, h.2, keeps h.0 h.1 h.2 h.3)
@@ -164,15 +199,26 @@ pub differ_next : {X : Type 0} (c : Collection) (ks : List KnownType) (t : Tree)
 differ_next c ks t at (Some x) e before now n lt = absurd (cc e)
 differ_next c ks t at None e before now n lt = elim (cases_eq n at) [ inl same ↦ subst (DiffersAt c ks t) (sym same) now | inr other ↦ before n (omega (arith, lt, other)) ]
 
--- known neither by its id nor by its tree
-pub found_none : {X : Type 0} (c : Collection) (ks : KnownTypes) (id : DefinedTypeId) (o : Option X) → (HasId ks.all.items id → ⊥) → IfNone o (HasTree c ks.all.items (type_tree c id) → ⊥) → IfNone o (IsFound c ks.all.items id → ⊥)
-found_none c ks id (Some x) f g = tt
-found_none c ks id None f g = none
+-- not known by its id, and where it is by its tree, that holds
+pub found_none : {X : Type 0} (c : Collection) (ks : KnownTypes) (id : DefinedTypeId) (o : Option X) (P : Type 0) → (HasId ks.all.items id → ⊥) → IfNone o (HasTree c ks.all.items (type_tree c id) → P) → IfNone o (IsFound c ks.all.items id → P)
+found_none c ks id (Some x) P f g = tt
+found_none c ks id None P f g = none
   where
-    none : IsFound c ks.all.items id → ⊥
-    none (inl h) = f h
+    none : IsFound c ks.all.items id → P
+    none (inl h) = absurd (f h)
     none (inr h) = g h
 
 pub if_none_map : {X : Type 0} (o : Option X) (P Q : Type 0) → (P → Q) → IfNone o P → IfNone o Q
 if_none_map None P Q f h = f h
 if_none_map (Some x) P Q f h = tt
+
+-- a resource that is an alias has the index of its source
+pub source_entry : (w : Worlds) (ss : List Scope) (c : Collection) (r s : ResourceId) (o : Option ℕ) → tree_in c (ItemKind.Ty (TypeKind.Resource s)) ≡ tree_in c (ItemKind.Ty (TypeKind.Resource r)) → IfSome o (IsEntry w ss c s) → IfSome o (IsEntry w ss c r)
+source_entry w ss c r s None e h = tt
+source_entry w ss c r s (Some k) e h = record { reads = h.reads ∙ ap Some e }
+
+-- and a value type that is one, that of what it is an alias of
+pub source_value : (w : Worlds) (ss : List Scope) (c : Collection) (v u : ValueType) (o : Option ℕ) → tree_in c (ItemKind.Value u) ≡ tree_in c (ItemKind.Value v)
+    → IfSome o (λ k. value_of w ss (Index k) ≡ Some (tree_in c (ItemKind.Value u))) → IfSome o (λ k. value_of w ss (Index k) ≡ Some (tree_in c (ItemKind.Value v)))
+source_value w ss c v u None e h = tt
+source_value w ss c v u (Some k) e h = h ∙ ap Some e

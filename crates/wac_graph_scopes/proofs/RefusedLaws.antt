@@ -1,5 +1,5 @@
 -- Refusals passed on: of a part, and through aliases.
-use Rattle.std.proofs.Common.{◌≡◌, ℕ, List, Option, Some, Result, Ok, Err, slice_get, refl, sym, ap, ◌∙◌, subst, inl}
+use Rattle.std.proofs.Common.{◌≡◌, ℕ, List, Option, Some, None, Result, Ok, Err, slice_get, refl, sym, ap, ◌∙◌, subst, inl}
 use Rattle.std.specs.Prelude.{IfErr}
 use Rattle.wac_types_base.specs.declared.ids.DefinedTypeId.{DefinedTypeId}
 use Rattle.wac_types_base.specs.declared.ids.InterfaceId.{InterfaceId}
@@ -25,12 +25,16 @@ use Rattle.wac_graph_scopes.specs.declared.fault.WriteError.{WriteError}
 use Rattle.wac_graph_scopes.specs.declared.scope.TypeScope.{TypeScope}
 use Rattle.wac_graph_scopes.specs.Known.{KeepsKnown}
 use Rattle.wac_graph_scopes.specs.Scopes.{IsScopeOf, KeepsScope}
-use Rattle.wac_graph_scopes.specs.Refusals.{IsUnnamed, IsLookedUp, Dangles, own_dangles, borrow_dangles, part_dangles, DanglesApart, dangles_apart, part_apart, alias_apart, Refused, RefusedParts, RefusedApart, RefusedPlace}
+use Rattle.wac_graph_scopes.specs.Refusals.{IsUnnamed, IsLookedUp, FindsAll, IsWhole, Dangles, own_dangles, borrow_dangles, part_dangles, DanglesApart, dangles_apart, part_apart, alias_apart, Refused, RefusedParts, RefusedApart, RefusedPlace}
 use Rattle.wac_graph_scopes.proofs.PlaceLaws.{found_on, scope_of_on, known_same_list}
 
 pub if_err_map : {T E : Type 0} {P Q : E → Type 0} (r : Result T E) → ((e : E) → P e → Q e) → IfErr r P → IfErr r Q
 if_err_map (Ok x) f h = tt
 if_err_map (Err e) f h = f e h
+
+pub if_err_both : {T E : Type 0} (r : Result T E) (P Q : E → Type 0) → IfErr r P → IfErr r Q → IfErr r (λ e. P e × Q e)
+if_err_both (Ok x) P Q f g = tt
+if_err_both (Err e) P Q f g = (f, g)
 
 -- ---- earlier
 
@@ -93,6 +97,21 @@ place_refused c k n slot o s m u WriteError.Memory l holds at is h = tt
 pub parts_refused : (c : Collection) (k : ItemKind) (s m u : TypeScope) (e : WriteError) → IsLater c s m → IsLookedUp c s k → RefusedParts c k m u e → Refused c k s u e
 parts_refused c k s m u WriteError.Unwritable l f h = part_dangles f h.1 (dangles_before c u.resources s m l (ItemKind.Value h.0) h.2)
 parts_refused c k s m u WriteError.Memory l f h = tt
+
+-- of what was not known, or could have been written anew
+pub whole_refused : (c : Collection) (d : DefinedTypeId) (s m u : TypeScope) (e : WriteError) (o : Option ℕ) → IsLater c s m → u.resources ≡ s.resources → o ≡ None → FindsAll c s d o → RefusedParts c (ItemKind.Value (ValueType.Defined d)) m u e → Refused c (ItemKind.Value (ValueType.Defined d)) s u e
+whole_refused c d s m u WriteError.Unwritable o l r none f h =
+    let before = dangles_before c u.resources s m l (ItemKind.Value h.0) h.2 in
+    let there = subst (λ (rs : List (Name × ℕ)). Dangles c rs s (ItemKind.Value h.0)) r before in
+    let unknown = subst (FindsAll c s d) none f in
+    part_dangles (λ no_alias known found. unknown known found (h.0, h.1, there)) h.1 before
+whole_refused c d s m u WriteError.Memory o l r none f h = tt
+
+-- nothing dangles in it in a scope with the same resources where the same is known
+pub whole_before : (c : Collection) (s m : TypeScope) → IsScopeOf c s → m.known.all ≡ s.known.all → m.resources ≡ s.resources → (k : ItemKind) → IsWhole c m k → IsWhole c s k
+whole_before c s m h all rs k whole p =
+    let back : IsLater c m s = record { scope = λ x. h; known = known_same_list m.known.all.items s.known.all.items (ap (λ v. v.items) (sym all)) } in
+    whole (p.0, p.1, subst (λ (r : List (Name × ℕ)). Dangles c r m (ItemKind.Value p.0)) (sym rs) (dangles_before c s.resources m s back (ItemKind.Value p.0) p.2))
 
 pub parts_refused_apart : (c : Collection) (d : DefinedTypeId) (s u : TypeScope) (e : WriteError) → RefusedParts c (ItemKind.Value (ValueType.Defined d)) s u e → RefusedApart c (ItemKind.Value (ValueType.Defined d)) s u e
 parts_refused_apart c d s u WriteError.Unwritable h = part_apart h

@@ -6,7 +6,10 @@ use Rattle.std.proofs.lemmas.Slice.Eq.{bytes_eq-Decides}
 use Rattle.wac_types_base.specs.Entries.{Name, value_at, put_entry}
 use Rattle.std.proofs.lemmas.List.{length_push}
 use Rattle.std.proofs.lemmas.Option.{none-some, same_Some}
+use Rattle.std.specs.Map.{lookup}
+use Rattle.wac_types_base.specs.contracts.ids.ResourceIdPartialEq.TheImpl.{eq-value}
 use Rattle.wac_types_base.specs.declared.ids.DefinedTypeId.{DefinedTypeId}
+use Rattle.wac_types_base.specs.declared.ids.ResourceId.{ResourceId}
 use Rattle.wac_types_base.specs.declared.item.ValueType.{ValueType}
 use Rattle.wac_types_base.specs.declared.item.ItemKind.{ItemKind}
 use Rattle.wac_types_base.specs.Record.{Collection}
@@ -28,7 +31,7 @@ use Rattle.wac_graph_bytes.proofs.Extending.{one_more, all_then}
 use Rattle.wac_graph_scopes.specs.declared.scope.KnownType.{KnownType}
 use Rattle.wac_graph_scopes.specs.declared.scope.KnownTypes.{KnownTypes}
 use Rattle.wac_graph_scopes.specs.declared.scope.TypeScope.{TypeScope}
-use Rattle.wac_graph_scopes.specs.Scopes.{Extends, OnlyTypes, IsKnown, AreKnown, IsResource, IsScope, Exchanges, Goes, AnswersType, PlaceReads, PlacesRead, IsTypeDeclaration, IsEntryIn}
+use Rattle.wac_graph_scopes.specs.Scopes.{Extends, OnlyTypes, IsKnown, IsEntry, AreKnown, IsResource, IsScope, Exchanges, Goes, AnswersType, PlaceReads, PlacesRead, IsTypeDeclaration, IsEntryIn}
 use Rattle.wac_graph_scopes.specs.Known.{ArePlaces}
 use Rattle.wac_types_fit.proofs.Items.{Among-last}
 
@@ -94,8 +97,15 @@ places_more w ss (x ∷ bs) [] b t h e = absurd h
 pub known_kept : (w : Worlds) (c : Collection) (h j : Scope) (outer : List Scope) (k : KnownType) → Extends h j → IsKnown w (h ∷ outer) c k → IsKnown w (j ∷ outer) c k
 known_kept w c h j outer k x e = record { reads = value_kept w h j outer (Index k.index) _ x e.reads }
 
+entry_kept : (w : Worlds) (c : Collection) (h j : Scope) (outer : List Scope) (r : ResourceId) (k : ℕ) → Extends h j → IsEntry w (h ∷ outer) c r k → IsEntry w (j ∷ outer) c r k
+entry_kept w c h j outer r k x e = record { reads = type_kept w h j outer k _ x e.reads }
+
 pub all_known_kept : (w : Worlds) (c : Collection) (h j : Scope) (outer : List Scope) (ks : KnownTypes) → Extends h j → AreKnown w (h ∷ outer) c ks → AreKnown w (j ∷ outer) c ks
-all_known_kept w c h j outer ks x a = record { each = λ k m. known_kept w c h j outer k x (a.each k m); places = a.places }
+all_known_kept w c h j outer ks x a = record {
+  each = λ k m. known_kept w c h j outer k x (a.each k m);
+  places = a.places;
+  resources = λ r k e. entry_kept w c h j outer r k x (a.resources r k e);
+}
 
 pub resource_kept : (w : Worlds) (h j : Scope) (outer : List Scope) (n : Name) (k : ℕ) → Extends h j → IsResource w (h ∷ outer) n k → IsResource w (j ∷ outer) n k
 resource_kept w h j outer n k x e = record { reads = type_kept w h j outer k _ x e.reads }
@@ -187,17 +197,33 @@ further xs x y z (inl b) = inl (inr b)
 further xs x y z (inr e) = inr e
 
 pub scope_remembers : (w : Worlds) (c : Collection) (outer : List Scope) (i : Inside) (s u : TypeScope) (k : KnownType) → IsScope w c outer i s → IsKnown w (i.here ∷ outer) c k
-    → u.declarations.items ≡ s.declarations.items → u.types ≡ s.types → u.known.all.items ≡ s.known.all.items ++ k ∷ [] → ArePlaces c u.known → u.resources ≡ s.resources → IsScope w c outer i u
-scope_remembers w c outer i s u k h true_of d t ks places rs = record {
+    → u.declarations.items ≡ s.declarations.items → u.types ≡ s.types → u.known.all.items ≡ s.known.all.items ++ k ∷ [] → ArePlaces c u.known → u.known.resources ≡ s.known.resources → u.resources ≡ s.resources → IsScope w c outer i u
+scope_remembers w c outer i s u k h true_of d t ks places es rs = record {
   reads = ap (λ (l : List Declaration). declared w outer nothing_inside (declarations_of l)) d ∙ h.reads;
   types = t ∙ h.types;
-  known = record { each = λ x a. by x (Among-last s.known.all.items k x (subst (λ (l : List KnownType). Among x l) ks a)); places = places };
+  known = record {
+    each = λ x a. by x (Among-last s.known.all.items k x (subst (λ (l : List KnownType). Among x l) ks a));
+    places = places;
+    resources = λ r n e. h.known.resources r n (ap (λ m. lookup (eq-value.it r) m.entries) (sym es) ∙ e);
+  };
   resources = λ n k a. h.resources n k (subst (λ (l : List (Name × ℕ)). value_at l n ≡ Some k) rs a);
 }
   where
     by : (x : KnownType) → Among x s.known.all.items ⊎ (x ≡ k) → IsKnown w (i.here ∷ outer) c x
     by x (inl a) = h.known.each x a
     by x (inr e) = subst (λ (y : KnownType). IsKnown w (i.here ∷ outer) c y) (sym e) true_of
+
+-- one more is known
+pub known_put : (w : Worlds) (c : Collection) (ss : List Scope) (s u : KnownTypes) (k : KnownType) → AreKnown w ss c s → IsKnown w ss c k → u.all.items ≡ s.all.items ++ k ∷ [] → ArePlaces c u → u.resources ≡ s.resources → AreKnown w ss c u
+known_put w c ss s u k h true_of items places rs = record {
+  each = λ x a. by x (Among-last s.all.items k x (subst (λ (l : List KnownType). Among x l) items a));
+  places = places;
+  resources = λ r j e. h.resources r j (ap (λ m. lookup (eq-value.it r) m.entries) (sym rs) ∙ e);
+}
+  where
+    by : (x : KnownType) → Among x s.all.items ⊎ (x ≡ k) → IsKnown w ss c x
+    by x (inl a) = h.each x a
+    by x (inr e) = subst (λ (y : KnownType). IsKnown w ss c y) (sym e) true_of
 
 -- what is known of one id is known of an equal one
 pub known_same : (w : Worlds) (c : Collection) (ss : List Scope) (k : KnownType) (id : DefinedTypeId) → IsKnown w ss c k → k.id ≡ id → value_of w ss (Index k.index) ≡ Some (tree_in c (ItemKind.Value (ValueType.Defined id)))

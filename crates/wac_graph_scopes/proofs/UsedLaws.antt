@@ -22,7 +22,7 @@ use Rattle.wac_types_base.proofs.Slots.{stands_typed_value}
 use Rattle.wac_types_base.proofs.Telling.{item_kind, resource_source}
 use Rattle.wac_types_fit.specs.Trees.{tree_in, Fit}
 use Rattle.wac_types_fit.specs.Checking.{IsFlat}
-use Rattle.wac_types_fit.proofs.Unfolded.{root_tree, source_tree, type_value}
+use Rattle.wac_types_fit.proofs.Unfolded.{root_tree, source_tree, type_value, primitive_tree, own_tree, borrow_tree}
 use Rattle.wac_types_fit.proofs.ItemKinds.{tree_kind, is_type, fits_flat, flat_is, kind_is, flat_fits}
 use Rattle.wac_types_base.specs.declared.item.PrimitiveType.{PrimitiveType}
 use Rattle.wac_graph_bytes.specs.declared.value.Sort.TheVariants as sort
@@ -34,7 +34,7 @@ use Rattle.wac_graph_bytes.proofs.Steps.{bind_some}
 use Rattle.wac_graph_bytes.proofs.Looked.{type_in_item}
 use Rattle.wac_graph_scopes.specs.declared.scope.TypeScope.{TypeScope}
 use Rattle.wac_graph_scopes.specs.Parts.{IsUsedKind, IsFresh}
-use Rattle.wac_graph_scopes.specs.Scopes.{IsScope, StandsFor, AnswersType, AnswersValue}
+use Rattle.wac_graph_scopes.specs.Scopes.{IsScope, AnswersType, AnswersValue}
 use Rattle.wac_graph_scopes.proofs.ScopeLaws.{Goes-refl, Goes-trans}
 use Rattle.wac_graph_scopes.specs.Items.{IsTypeItem, IsNotable, sort_of}
 use Rattle.wac_graph_scopes.specs.Forms.{row_of}
@@ -64,6 +64,10 @@ module _ (c : Collection) (acyclic : IsAcyclic c) where
   pub root_of : (r : ResourceId) → Stands c (ItemKind.Ty (TypeKind.Resource r)) → (n : Name) × (tree_in c (ItemKind.Ty (TypeKind.Resource r)) ≡ rigid (resource n) end)
   root_of r s = root_by_size (suc (size_of c (ItemKind.Ty (TypeKind.Resource r)))) r (omega arith) s
 
+  -- and the type that it is, as an item
+  pub resource_type : (r : ResourceId) → Stands c (ItemKind.Ty (TypeKind.Resource r)) → type_in (tree_in c (ItemKind.Ty (TypeKind.Resource r))) ≡ Some (tree_in c (ItemKind.Ty (TypeKind.Resource r)))
+  resource_type r s = let n = root_of r s in ap type_in n.1 ∙ ap Some (sym n.1)
+
   -- the tree of a defined type that is no alias is one of a value
   pub defined_value : (d : DefinedTypeId) → Stands c (ItemKind.Value (ValueType.Defined d)) → IsNoAlias c (ValueType.Defined d)
       → as_value (tree_in c (ItemKind.Value (ValueType.Defined d))) ≡ Some (tree_in c (ItemKind.Value (ValueType.Defined d)))
@@ -71,6 +75,13 @@ module _ (c : Collection) (acyclic : IsAcyclic c) where
       let f = defined_found c d s in
       let same = defined_tree_is c acyclic d f.value n f.at f.own in
       ap as_value same ∙ entry_is_value f.value (row_of (trees_by (tree_in c) (defined_entry f.value).1)) (not_alias c d f.value n f.at) ∙ ap Some (sym same)
+
+  -- likewise of any value type that is no alias
+  pub end_value : (v : ValueType) → Stands c (ItemKind.Value v) → IsNoAlias c v → as_value (tree_in c (ItemKind.Value v)) ≡ Some (tree_in c (ItemKind.Value v))
+  end_value (ValueType.Primitive p) s n = ap as_value (primitive_tree c acyclic p) ∙ ap Some (sym (primitive_tree c acyclic p))
+  end_value (ValueType.Own r) s n = ap as_value (own_tree c acyclic r s) ∙ ap Some (sym (own_tree c acyclic r s))
+  end_value (ValueType.Borrow r) s n = ap as_value (borrow_tree c acyclic r s) ∙ ap Some (sym (borrow_tree c acyclic r s))
+  end_value (ValueType.Defined d) s n = defined_value d s n
 
 -- a type that is no resource, as an item
 pub plain_item : (t : Tree) → (tree_kind t ≡ IsResource → ⊥) → item_of t ≡ type_item t
@@ -222,7 +233,7 @@ module _ (w : Worlds) (c : Collection) (outer : List Scope) (i : Inside) where
       → AnswersType w c outer i t u k
   type_remembered t s u k a remembers = type_answered t u k (value_remembered w c outer i t s u k a remembers)
 
--- a defined type's index, by the tree of what it was resolved from
-pub stands_for : (w : Worlds) (c : Collection) (acyclic : IsAcyclic c) (ss : List Scope) (d : DefinedTypeId) (v : ValueType) (k : ℕ) → Stands c (ItemKind.Value (ValueType.Defined d)) → IsNoAlias c (ValueType.Defined d)
-    → tree_in c (ItemKind.Value (ValueType.Defined d)) ≡ tree_in c (ItemKind.Value v) → type_at w ss k ≡ Some (tree_in c (ItemKind.Value v)) → StandsFor w ss c d k
-stands_for w c acyclic ss d v k s n same e = index_reads w ss k (tree_in c (ItemKind.Value (ValueType.Defined d))) (defined_value c acyclic d s n) (e ∙ ap Some (sym same))
+-- the index of an item whose type is at the end of these aliases, as a value type
+pub item_value : (w : Worlds) (c : Collection) (acyclic : IsAcyclic c) (ss : List Scope) (last v : ValueType) (k : ℕ) → Stands c (ItemKind.Value last) → IsNoAlias c last
+    → tree_in c (ItemKind.Value last) ≡ tree_in c (ItemKind.Value v) → type_at w ss k ≡ Some (tree_in c (ItemKind.Value v)) → value_of w ss (Index k) ≡ Some (tree_in c (ItemKind.Value v))
+item_value w c acyclic ss last v k s n same e = index_reads w ss k (tree_in c (ItemKind.Value v)) (ap as_value (sym same) ∙ end_value c acyclic last s n ∙ ap Some same) e

@@ -219,6 +219,17 @@ AliasesOuter depth k old new r =
     (w : Worlds) (c : Collection) (outer : List Scope) (i : Inside) (t : Tree) → IsItemScope w c outer i old
     → IsTypeItem w (i.here ∷ outer) depth t k → IfOk r (GivesItem w c outer i t new)
 
+-- the scope goes on, and an index stands for the same as this one
+pub record GivesMeaning (w : Worlds) (c : Collection) (outer : List Scope) (i : Inside) (m : Meaning) (s : ItemScope)
+    (k : ℕ) : Type 0 where
+  pub after : Inside
+  pub goes : ItemsGo w c outer i after s
+  pub index : slice_get after.here.types k ≡ Some m
+
+abbrev pub RepeatsType : {E : Type 0} → ℕ → ItemScope → ItemScope → Result ℕ E → Type 0
+RepeatsType k old new r = (w : Worlds) (c : Collection) (outer : List Scope) (i : Inside) (m : Meaning) → IsItemScope w c outer i old
+    → slice_get i.here.types k ≡ Some m → IfOk r (GivesMeaning w c outer i m new)
+
 -- the index stands for an instance with that tree
 abbrev pub IsInstanceAt : Worlds → List Scope → Tree → ℕ → Type 0
 IsInstanceAt w ss t k = (m : Meaning) × (found ss sort.Instance k ≡ Some m) × (item_tree w m ≡ Some t)

@@ -39,6 +39,11 @@ pub record ArePlaces (c : Collection) (ks : KnownTypes) : Type 0 where
   pub names : (k : KnownType) → Among k ks.all.items → k.named ≡ true → HasPrint c ks.places.by_print.entries k.id
   pub prints : ArePrints c ks.places.prints
 
+-- the index that is remembered of a type's id
+pub record IsIndexOf (ks : KnownTypes) (id : DefinedTypeId) (k : ℕ) : Type 0 where
+  pub place : HasPlace ks.places.by_id.entries ks.all.items id
+  pub index : place.there.index ≡ k
+
 -- a type of that id is known
 abbrev pub HasId : List KnownType → DefinedTypeId → Type 0
 HasId ks id = (k : KnownType) × Among k ks × (k.id ≡ id)

@@ -1,5 +1,7 @@
 -- Why types could not be written in a scope.
-use Rattle.std.specs.Prelude.{◌≡◌, ℕ, List, Option, Result, Some, None, IfErr, slice_get}
+use Rattle.std.specs.Prelude.{◌≡◌, ℕ, List, Option, Result, Some, None, Bool, false, IfOk, IfErr, IfNone, slice_get}
+use Rattle.std.specs.Map.{lookup}
+use Rattle.wac_types_base.specs.contracts.ids.DefinedTypeIdPartialEq.TheImpl.{eq-value}
 use Rattle.wac_types_base.specs.declared.ids.DefinedTypeId.{DefinedTypeId}
 use Rattle.wac_types_base.specs.declared.ids.ResourceId.{ResourceId}
 use Rattle.wac_types_base.specs.declared.item.ValueType.{ValueType}
@@ -15,7 +17,8 @@ use Rattle.wac_types_base.specs.Tree.{rigid, end}
 use Rattle.wac_types_fit.specs.Trees.{tree_in}
 use Rattle.wac_graph_scopes.specs.declared.fault.WriteError.{WriteError}
 use Rattle.wac_graph_scopes.specs.declared.scope.TypeScope.{TypeScope}
-use Rattle.wac_graph_scopes.specs.Known.{IsFound}
+use Rattle.wac_graph_scopes.specs.declared.lacking.Lacking.{Lacking}
+use Rattle.wac_graph_scopes.specs.Known.{type_tree, HasTree, IsFound}
 use Rattle.wac_graph_scopes.specs.Scopes.{IsScopeOf}
 
 -- the resource at the end of its aliases has no index there under its name
@@ -40,6 +43,33 @@ pub data Dangles (c : Collection) (rs : List (Name × ℕ)) (s : TypeScope) : It
 -- in one of its parts
 abbrev pub PartDangles : Collection → List (Name × ℕ) → TypeScope → ItemKind → Type 0
 PartDangles c rs s k = (v : ValueType) × Among (Some (ItemKind.Value v)) (slots_of c k) × Dangles c rs s (ItemKind.Value v)
+
+-- nothing in what it is made of dangles, so it can be written anew
+abbrev pub IsWhole : Collection → TypeScope → ItemKind → Type 0
+IsWhole c s k = PartDangles c s.resources s k → ⊥
+
+-- nothing is found only where no type with a name has its tree, or it can be written anew
+abbrev pub FindsNeeded : Collection → TypeScope → DefinedTypeId → Option ℕ → Type 0
+FindsNeeded c s id o = IsScopeOf c s
+    → IfNone o (HasTree c s.known.all.items (type_tree c id) → IsWhole c s (ItemKind.Value (ValueType.Defined id)))
+
+-- nothing is found only where the type is not known, or can be written anew
+abbrev pub FindsAll : Collection → TypeScope → DefinedTypeId → Option ℕ → Type 0
+FindsAll c s id o =
+    IsScopeOf c s → IfNone o (IsFound c s.known.all.items id → IsWhole c s (ItemKind.Value (ValueType.Defined id)))
+
+-- ---- whether types can be written anew
+
+-- where that is said of defined types, it is true
+pub record AreLacking (c : Collection) (s : TypeScope) (l : Lacking) : Type 0 where
+  pub whole : (d : DefinedTypeId) → lookup (eq-value.it d) l.found.entries ≡ Some false → IsWhole c s (ItemKind.Value (ValueType.Defined d))
+
+-- what is said stays true, and the answer is no only of what this holds of
+abbrev pub TellsLacking : {E : Type 0} → Collection → TypeScope → Type 0 → Lacking → Lacking → Result Bool E → Type 0
+TellsLacking c s P old new r = AreLacking c s old → IfOk r (λ b. AreLacking c s new × (b ≡ false → P))
+
+abbrev pub NoneDangles : Collection → TypeScope → Option ValueType → Type 0
+NoneDangles c s o = (v : ValueType) → o ≡ Some v → Dangles c s.resources s (ItemKind.Value v) → ⊥
 
 -- Likewise of what is written whether or not it is known: of what is at the end of its aliases a part dangles.
 pub data DanglesApart (c : Collection) (rs : List (Name × ℕ)) (s : TypeScope) : ItemKind → Type 0 where

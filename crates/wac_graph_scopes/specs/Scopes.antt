@@ -1,15 +1,19 @@
 -- What holds of a scope of written types while it is being written: an instance type, a component type, or the root of a
 -- component before anything is instantiated.
-use Rattle.std.specs.Prelude.{◌≡◌, ℕ, List, [], ◌∷◌, ◌++◌, length, Option, Result, Some, None, slice_get, IfSome, IfNone, IfOk, true}
+use Rattle.std.specs.Prelude.{◌≡◌, ℕ, List, [], ◌∷◌, ◌++◌, length, Option, Result, Some, None, slice_get, IfSome, IfNone, IfOk, OnOk, true}
 use Rattle.std.specs.declared.alloc.Global.{Global}
 use Rattle.std.specs.declared.vec.Vec.{Vec}
+use Rattle.std.specs.Map.{lookup}
+use Rattle.wac_types_base.specs.contracts.ids.ResourceIdPartialEq.TheImpl.{eq-value}
 use Rattle.wac_types_base.specs.declared.ids.DefinedTypeId.{DefinedTypeId}
+use Rattle.wac_types_base.specs.declared.ids.ResourceId.{ResourceId}
 use Rattle.wac_types_base.specs.declared.item.ValueType.{ValueType}
+use Rattle.wac_types_base.specs.declared.item.«Type».{«Type» as TypeKind}
 use Rattle.wac_types_base.specs.declared.item.ItemKind.{ItemKind}
 use Rattle.wac_types_base.specs.Record.{Collection}
 use Rattle.wac_types_base.specs.Graph.{Among}
 use Rattle.wac_types_base.specs.Entries.{Name, value_at}
-use Rattle.wac_types_base.specs.Collection.{resource}
+use Rattle.wac_types_base.specs.Collection.{Stands, resource}
 use Rattle.wac_types_base.specs.Resolving.{IsNoAlias}
 use Rattle.wac_types_base.specs.Tree.{Tree, rigid, end}
 use Rattle.wac_types_fit.specs.Trees.{tree_in}
@@ -25,7 +29,7 @@ use Rattle.wac_graph_bytes.specs.Views.{before, declarations_of, defined_view}
 use Rattle.wac_graph_scopes.specs.declared.scope.KnownType.{KnownType}
 use Rattle.wac_graph_scopes.specs.declared.scope.KnownTypes.{KnownTypes}
 use Rattle.wac_graph_scopes.specs.declared.scope.TypeScope.{TypeScope}
-use Rattle.wac_graph_scopes.specs.Known.{ArePlaces, HasPrint, HasTree, type_tree, IsFound}
+use Rattle.wac_graph_scopes.specs.Known.{ArePlaces, HasPrint, HasTree, type_tree, HasId, IsIndexOf}
 
 -- more may stand, and what stood stands
 pub record Extends (old new : Scope) : Type 0 where
@@ -50,10 +54,20 @@ pub record GoesOn (old new : Inside) : Type 0 where
 pub record IsKnown (w : Worlds) (ss : List Scope) (c : Collection) (k : KnownType) : Type 0 where
   pub reads : value_of w ss (Index k.index) ≡ Some (tree_in c (ItemKind.Value (ValueType.Defined k.id)))
 
+-- the index stands for the resource of that id
+pub record IsEntry (w : Worlds) (ss : List Scope) (c : Collection) (r : ResourceId) (k : ℕ) : Type 0 where
+  pub reads : type_at w ss k ≡ Some (tree_in c (ItemKind.Ty (TypeKind.Resource r)))
+
 -- all of them are true there, and each is found
 pub record AreKnown (w : Worlds) (ss : List Scope) (c : Collection) (ks : KnownTypes) : Type 0 where
   pub each : (k : KnownType) → Among k ks.all.items → IsKnown w ss c k
   pub places : ArePlaces c ks
+  pub resources : (r : ResourceId) (k : ℕ) → lookup (eq-value.it r) ks.resources.entries ≡ Some k → IsEntry w ss c r k
+
+-- an index that stands for the type is known with the others
+abbrev pub PutsKnown : {U E : Type 0} → DefinedTypeId → ℕ → KnownTypes → KnownTypes → Result U E → Type 0
+PutsKnown id k old new r = (w : Worlds) (ss : List Scope) (c : Collection) → AreKnown w ss c old
+    → value_of w ss (Index k) ≡ Some (tree_in c (ItemKind.Value (ValueType.Defined id))) → OnOk r (AreKnown w ss c new)
 
 -- the index of a resource that stands there stands for the resource of that name
 pub record IsResource (w : Worlds) (ss : List Scope) (n : Name) (k : ℕ) : Type 0 where
@@ -186,9 +200,18 @@ WritesEntry c id old new r =
 abbrev pub FindsTree : Collection → TypeScope → DefinedTypeId → Option ℕ → Type 0
 FindsTree c s id o = IsScopeOf c s → IfNone o (HasTree c s.known.all.items (type_tree c id) → ⊥)
 
--- nothing is found only where the type is not known
-abbrev pub FindsAll : Collection → TypeScope → DefinedTypeId → Option ℕ → Type 0
-FindsAll c s id o = IsScopeOf c s → IfNone o (IsFound c s.known.all.items id → ⊥)
+-- a value type that is known by its own id is written as the index that is remembered of it
+abbrev pub WritesOwn : {E : Type 0} → TypeScope → ValueType → Result Written E → Type 0
+WritesOwn s v r = (d : DefinedTypeId) (k : ℕ) → v ≡ ValueType.Defined d → IsIndexOf s.known d k → IfOk r (λ b. b ≡ Index k)
+
+-- the index of a value type, or of a resource, if there is one
+abbrev pub FindsValue : Collection → TypeScope → ValueType → Option ℕ → Type 0
+FindsValue c s v o = (w : Worlds) (outer : List Scope) (i : Inside) → IsScope w c outer i s
+    → IfSome o (λ k. value_of w (i.here ∷ outer) (Index k) ≡ Some (tree_in c (ItemKind.Value v)))
+
+abbrev pub FindsEntry : Collection → TypeScope → ResourceId → Option ℕ → Type 0
+FindsEntry c s r o = (w : Worlds) (outer : List Scope) (i : Inside) → IsScope w c outer i s
+    → IfSome o (IsEntry w (i.here ∷ outer) c r)
 
 abbrev pub FindsResource : {E : Type 0} → Collection → Tree → TypeScope → Result ℕ E → Type 0
 FindsResource c t s r =
@@ -252,10 +275,23 @@ abbrev pub RemembersOne : {U E : Type 0} → Collection → DefinedTypeId → �
 RemembersOne c id k old new r = (w : Worlds) (outer : List Scope) (i : Inside) → IsScope w c outer i old
     → StandsFor w (i.here ∷ outer) c id k → IfOk r (λ _. IsScope w c outer i new)
 
+abbrev pub RemembersValue : {U E : Type 0} → Collection → ValueType → ℕ → TypeScope → TypeScope → Result U E → Type 0
+RemembersValue c v k old new r = (w : Worlds) (outer : List Scope) (i : Inside) → IsScope w c outer i old
+    → value_of w (i.here ∷ outer) (Index k) ≡ Some (tree_in c (ItemKind.Value v)) → IfOk r (λ _. IsScope w c outer i new)
+
 abbrev pub NotesResource : {U E : Type 0} → Name → ℕ → TypeScope → TypeScope → Result U E → Type 0
 NotesResource n k old new r = (w : Worlds) (c : Collection) (outer : List Scope) (i : Inside) → IsScope w c outer i old
     → IsResource w (i.here ∷ outer) n k → IfOk r (λ _. IsScope w c outer i new)
 
+abbrev pub NotesEntry : {U E : Type 0} → Collection → ResourceId → ℕ → TypeScope → TypeScope → Result U E → Type 0
+NotesEntry c id k old new r = (w : Worlds) (outer : List Scope) (i : Inside) → IsScope w c outer i old
+    → IsEntry w (i.here ∷ outer) c id k → IfOk r (λ _. IsScope w c outer i new)
+
 abbrev pub NotesValue : {U E : Type 0} → Collection → ValueType → ℕ → TypeScope → TypeScope → Result U E → Type 0
 NotesValue c v k old new r = (w : Worlds) (outer : List Scope) (i : Inside) → IsScope w c outer i old
     → type_at w (i.here ∷ outer) k ≡ Some (tree_in c (ItemKind.Value v)) → IfOk r (λ _. IsScope w c outer i new)
+
+-- then the defined type is known by its own id
+abbrev pub NotesOwn : {U E : Type 0} → Collection → ValueType → TypeScope → Result U E → Type 0
+NotesOwn c v new r = (d : DefinedTypeId) → v ≡ ValueType.Defined d → Stands c (ItemKind.Value v)
+    → OnOk r (HasId new.known.all.items d)

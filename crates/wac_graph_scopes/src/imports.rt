@@ -27,8 +27,8 @@ use crate::items::{
 use crate::order::{ImportOrder, order_of};
 use crate::parts::{
     Item, Use, export_at, export_count, identifier, import_at, import_count, interface_of,
-    is_fresh, taken, use_at, use_count, world_export_at, world_export_count, world_use_at,
-    world_use_count, world_use_named,
+    is_fresh, taken, use_at, use_count, use_named, world_export_at, world_export_count,
+    world_use_at, world_use_count, world_use_named,
 };
 use crate::scope::KnownTypes;
 use crate::used::{TypeName, UsedIndex, UsedTypes};
@@ -36,7 +36,9 @@ use crate::value::{define_apart, fits_in};
 use std::alloc::{AllocError, Global};
 use std::mem;
 use wac_graph_bytes::{Declaration, Description, Sort};
-use wac_types_base::{InterfaceId, ItemKind, NamedMap, Names, Text, Type, Types, WorldId};
+use wac_types_base::{
+    InterfaceId, ItemKind, NamedMap, Names, Text, Type, Types, UsedType, WorldId,
+};
 
 /// An index of a sort.
 #[derive(Clone, Copy, Debug)]
@@ -69,8 +71,18 @@ pub struct Importing<'a> {
     pub types: &'a Types,
     pub world: WorldId,
     pub called: &'a [Called],
+    /// What imports are used types, beside those that the world uses itself.
+    pub uses: &'a NamedMap<UsedType>,
     /// Whether exports are over the interfaces that the world exports, where it exports those that they use.
     pub over_exports: bool,
+}
+
+/// The use that gives a name: the world's own, or else one that is told beside the world.
+pub(crate) fn use_of<'a>(all: Importing<'a>, name: &'a str) -> Option<Use<'a>> {
+    match world_use_named(all.types, all.world, name) {
+        Some(used) => Some(used),
+        None => use_named(all.uses, name),
+    }
 }
 
 /// What sort an item so described is of.
@@ -528,7 +540,7 @@ impl ImportScope {
         }
     }
 
-    /// What a type is that the world uses, where it is imported.
+    /// What a type is that is used, where it is imported.
     fn describe_used(
         &mut self,
         alloc: Global,
@@ -537,7 +549,7 @@ impl ImportScope {
     ) -> Result<Option<Description>, WriteError>
         ensures { MayDescribe all.entry import.entry self.old self.new result }
     {
-        let Some(used) = world_use_named(all.types, all.world, import.name) else {
+        let Some(used) = use_of(all, import.name) else {
             return Ok(None);
         };
         match taken(all.types, used) {
@@ -546,7 +558,7 @@ impl ImportScope {
         }
     }
 
-    /// What a type is that a use of the world takes, where it is imported.
+    /// What a type is that a use takes, where it is imported.
     fn describe_taken(
         &mut self,
         alloc: Global,
@@ -611,7 +623,7 @@ impl ImportScope {
         description
     }
 
-    /// What an import is that needs no type written: a type that the world uses, or a resource under its own name.
+    /// What an import is that needs no type written: a type that is used, or a resource under its own name.
     fn describe_plainly(
         &mut self,
         alloc: Global,

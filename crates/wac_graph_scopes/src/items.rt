@@ -12,29 +12,28 @@ ghost use Rattle.wac_graph_bytes.specs.Typing.{Worlds, Scope, nothing_inside};
 ghost use Rattle.wac_graph_scopes.specs.Used.{IsUsedAs};
 ghost use Rattle.wac_graph_scopes.specs.Parts.{exports_of, uses_of, IsUsedKind, IsFresh};
 ghost use Rattle.wac_graph_scopes.specs.declared.fault.WriteError.{WriteError};
-ghost use Rattle.wac_graph_scopes.specs.Scopes.{FindsResource};
-ghost use Rattle.wac_graph_scopes.specs.Refusals.{IsUnnamed, RefusedThere};
+ghost use Rattle.wac_graph_scopes.specs.Refusals.{RefusedThere};
 ghost use Rattle.wac_graph_scopes.specs.ItemRefusals.{RefusedModule, RefusedType, RefusedItem, RefusedUse};
-ghost use Rattle.wac_graph_scopes.specs.Items.{IsItemScope, AddsType, EntersType, AddsCore, count_of, with_count, AddsItem, AliasesOuter, AliasesExport, described_as, Notes};
+ghost use Rattle.wac_graph_scopes.specs.Items.{IsItemScope, AddsType, EntersType, AddsCore, count_of, with_count, AddsItem, RepeatsType, AliasesOuter, AliasesExport, described_as, Notes};
 ghost use Rattle.wac_graph_scopes.specs.Items.{FindsUsed, FindsUnder, Misses, IsUsedBy, AliasesUsed, ExportsTaken, NotTaken, HasNameAt, ExportsUsed, TakesUse, TakesNamed, TakesAt, BeginsInstance, KeepsWriting, ExportsDescribed, ExportsFresh};
 ghost use Rattle.wac_graph_scopes.specs.Items.{StatesType, StatesTypeItem, StatesModule, DescribesSimply, MakesItem, HasEntry, DescribesEntry, StatesItem, StatesClosed, DescribesItem, ExportsOne, WritesOtherAt, WritesOthers, WritesInstance, MakesInstance};
 
 use crate::core_items::module_declarations;
 use crate::fault::WriteError;
 use crate::parts::{
-    Item, Use, export_at, export_count, export_named, identifier, interface_of, is_fresh,
-    root_name, taken, use_at, use_count, world_of,
+    Item, Use, export_at, export_count, export_named, identifier, interface_of, is_fresh, taken,
+    use_at, use_count, world_of,
 };
+use crate::resources::{note_resource, resource_of};
 use crate::scope::{TypeScope, next_of};
 use crate::used::{TypeName, UsedIndex, UsedTypes};
-use crate::value::{define_value, fits_in, note_resource, note_value, push_func};
+use crate::value::{define_value, fits_in, note_value, push_func};
 use crate::worlds::component_type;
 use std::alloc::{AllocError, Global};
 use std::mem;
 use wac_graph_bytes::{Alias, Declaration, Description, Sort};
 use wac_types_base::{
-    FuncTypeId, InterfaceId, ItemKind, ModuleTypeId, Names, ResourceId, Type, Types, ValueType,
-    WorldId,
+    FuncTypeId, InterfaceId, ItemKind, ModuleTypeId, Names, Type, Types, ValueType, WorldId,
 };
 
 /// A scope of written types, and how many items of the other sorts stand there.
@@ -176,6 +175,14 @@ impl ItemScope {
         self.add_type(Declaration::Alias(Alias::Outer(Sort::Ty, depth, index)))
     }
 
+    /// Adds an alias of a type that stands here: an index of its own for the same type.
+    pub fn repeat_type(&mut self, index: u64) -> Result<u64, WriteError>
+        ensures repeats { RepeatsType index self.old self.new result }
+        ensures refused { IfErr result (λ e. e ≡ WriteError.Memory) }
+    {
+        self.add_type(Declaration::Alias(Alias::Outer(Sort::Ty, 0, index)))
+    }
+
     /// Adds an alias of a type that an instance exports.
     pub(crate) fn add_alias(
         &mut self,
@@ -218,12 +225,7 @@ impl ItemScope {
     {
         types.see_acyclic();
         match ty {
-            Type::Resource(id) => note_resource(
-                alloc,
-                &mut self.types,
-                root_name(types, id),
-                index,
-            ),
+            Type::Resource(id) => note_resource(alloc, &mut self.types, types, id, index),
             Type::Value(ty) => note_value(&mut self.types, types, ty, index),
             _ => Ok(()),
         }
@@ -657,18 +659,6 @@ fn push_module_type(
     scope.add_core(Declaration::Module(declarations))
 }
 
-/// The index of a resource that stands here.
-fn resource_index(scope: &ItemScope, types: &Types, id: ResourceId) -> Result<u64, WriteError>
-    requires { Stands types.now (ItemKind.Ty (TypeKind.Resource id)) }
-    ensures finds { FindsResource types.now (tree_in types.now (ItemKind.Ty (TypeKind.Resource id))) scope.now.types result }
-    ensures refused { IfErr result (λ e. (e ≡ WriteError.Unwritable) × IsUnnamed types.now scope.now.types.resources id) }
-{
-    match scope.types.resource(root_name(types, id)) {
-        Some(index) => Ok(index),
-        None => Err(WriteError::Unwritable),
-    }
-}
-
 /// The index of a function's type, which is written.
 pub(crate) fn push_func_type(
     alloc: Global,
@@ -700,7 +690,7 @@ fn push_type(
 {
     types.see_acyclic();
     match ty {
-        Type::Resource(id) => resource_index(scope, types, id),
+        Type::Resource(id) => resource_of(&scope.types, types, id),
         Type::Func(id) => push_func_type(alloc, scope, types, id),
         Type::Value(ty) => push_value_type(alloc, scope, types, ty),
         _ => Err(WriteError::Unwritable),

@@ -8,11 +8,13 @@ ghost use Rattle.wac_graph_scopes.specs.Imports.{all_imports, all_exports};
 ghost use Rattle.wac_graph_scopes.specs.declared.order.Turn.TheVariants as TheTurn;
 ghost use Rattle.wac_graph_scopes.specs.Orders.{IsOrder, IsBegun, Puts, Marks, Leaves, IsDone, AreDone, IsSource, IsEarly, IsTurnAt, AreTurns, EarlyFirst, SourcesFirst};
 
-use crate::imports::Importing;
+use crate::imports::{Importing, use_of};
 use crate::parts::{
     Item, Use, export_at, export_count, identifier, import_at, import_count, interface_of,
     is_fresh, use_at, use_count, world_export_at, world_export_count, world_use_named,
 };
+use crate::type_places::TypePlaces;
+use indexmap::IndexSet;
 use std::alloc::{AllocError, Global};
 use std::mem;
 use wac_types_base::{InterfaceId, ItemKind, NamedMap, Types};
@@ -22,7 +24,7 @@ use wac_types_base::{InterfaceId, ItemKind, NamedMap, Types};
 enum Turn {
     /// Resources under their own names.
     Fresh,
-    /// Instances, and what the world uses of them.
+    /// Instances, and what is used of them.
     Interfaces,
     /// Other types.
     Types,
@@ -43,10 +45,28 @@ struct Order {
     order: Vec<usize>,
 }
 
-fn turn_of(all: Importing<'_>, import: Item<'_>) -> Turn
+/// Where the import of a used interface stands.
+fn place_of_use(types: &Types, found: &NamedMap<usize>, used: Use<'_>) -> Option<usize> {
+    let name = identifier(types, used.interface)?;
+    found.get(name).copied()
+}
+
+/// Where the import of the interface stands of which an import is a used type.
+fn place_of_used(all: Importing<'_>, found: &NamedMap<usize>, import: Item<'_>) -> Option<usize> {
+    let used = use_of(all, import.name)?;
+    place_of_use(all.types, found, used)
+}
+
+/// Whether it is a used type: one that the world uses itself, or one of an interface that is imported.
+fn is_used(all: Importing<'_>, found: &NamedMap<usize>, import: Item<'_>) -> bool {
+    world_use_named(all.types, all.world, import.name).is_some()
+        || place_of_used(all, found, import).is_some()
+}
+
+fn turn_of(all: Importing<'_>, found: &NamedMap<usize>, import: Item<'_>) -> Turn
     ensures { Stands all.entry.types.now import.entry.kind → IsSource import.entry.kind → IsEarly result }
 {
-    if world_use_named(all.types, all.world, import.name).is_some() {
+    if is_used(all, found, import) {
         return Turn::Interfaces;
     }
     if is_fresh(all.types, import) {
@@ -62,21 +82,6 @@ fn turn_of(all: Importing<'_>, import: Item<'_>) -> Turn
     }
 }
 
-/// Adds where the import of a used interface stands.
-fn add_use(
-    types: &Types,
-    found: &NamedMap<usize>,
-    used: Use<'_>,
-    needs: &mut Vec<usize>,
-) -> Result<(), AllocError> {
-    if let Some(name) = identifier(types, used.interface) {
-        if let Some(at) = found.get(name) {
-            needs.push(*at)?;
-        }
-    }
-    Ok(())
-}
-
 /// Adds where the imports of the interfaces stand that an interface uses itself.
 fn add_uses(
     types: &Types,
@@ -86,7 +91,9 @@ fn add_uses(
 ) -> Result<(), AllocError> {
     for at in 0..use_count(types, id) {
         if let Some(used) = use_at(types, id, at) {
-            add_use(types, found, used, needs)?;
+            if let Some(place) = place_of_use(types, found, used) {
+                needs.push(place)?;
+            }
         }
     }
     Ok(())
@@ -119,24 +126,28 @@ fn same_turn(a: Turn, b: Turn) -> bool
 }
 
 /// When it is the turn of each import.
-fn turns_of(alloc: Global, all: Importing<'_>) -> Result<Vec<Turn>, AllocError>
+fn turns_of(
+    alloc: Global,
+    all: Importing<'_>,
+    found: &NamedMap<usize>,
+) -> Result<Vec<Turn>, AllocError>
     ensures len { IfOk result (λ v. length v.items ≡ length (all_imports all.entry)) }
     ensures turns { IfOk result (λ v. AreTurns all.entry v.items) }
     ensures distinct { AreDistinct (names_of (all_imports all.entry)) }
 {
     let mut turns = Vec::new(alloc);
     for at in 0..import_count(all.types, all.world) {
-        turns.push(turn_at(all, at))?;
+        turns.push(turn_at(all, found, at))?;
     }
     Ok(turns)
 }
 
 /// When it is the turn of the import at a place.
-fn turn_at(all: Importing<'_>, at: usize) -> Turn
+fn turn_at(all: Importing<'_>, found: &NamedMap<usize>, at: usize) -> Turn
     ensures { IsTurnAt all.entry at result }
 {
     match import_at(all.types, all.world, at) {
-        Some(import) => turn_of(all, import),
+        Some(import) => turn_of(all, found, import),
         None => Turn::Others,
     }
 }
@@ -153,33 +164,96 @@ fn none_begun(alloc: Global, count: usize) -> Result<Vec<bool>, AllocError>
     Ok(begun)
 }
 
-/// Where the imports stand that the one at a place uses.
-fn needs_of_import(
+/// Where the imports stand that the interface of the one at a place uses.
+fn uses_of_import(
     alloc: Global,
     all: Importing<'_>,
     found: &NamedMap<usize>,
     at: usize,
 ) -> Result<Vec<usize>, AllocError> {
-    let mut needs = Vec::new(alloc);
-    let types = all.types;
-    if let Some(import) = import_at(types, all.world, at) {
-        if let Some(used) = world_use_named(types, all.world, import.name) {
-            add_use(types, found, used, &mut needs)?;
+    match import_at(all.types, all.world, at) {
+        Some(import) => needs_of_item(alloc, all.types, found, import.kind),
+        None => Ok(Vec::new(alloc)),
+    }
+}
+
+/// The order in which interfaces are written, each behind those that it uses.
+fn interfaces_in_order(
+    alloc: Global,
+    all: Importing<'_>,
+    found: &NamedMap<usize>,
+) -> Result<IndexSet<usize>, AllocError> {
+    let mut uses = Vec::new(alloc);
+    for at in 0..import_count(all.types, all.world) {
+        uses.push(uses_of_import(alloc, all, found, at)?)?;
+    }
+    let mut order = IndexSet::new(alloc);
+    for at in &order_by_needs(alloc, uses)? {
+        let _ = order.insert(*at)?;
+    }
+    Ok(order)
+}
+
+/// Whether one place comes before another.
+fn comes_before(order: &IndexSet<usize>, one: usize, other: usize) -> bool {
+    match (order.get_index_of(&one), order.get_index_of(&other)) {
+        (Some(first), Some(second)) => first < second,
+        _ => false,
+    }
+}
+
+/// Adds where the imports stand that the interface of the one at a place uses, but for those that wait for it.
+fn add_uses_before(
+    alloc: Global,
+    all: Importing<'_>,
+    found: &NamedMap<usize>,
+    order: &IndexSet<usize>,
+    at: usize,
+    needs: &mut Vec<usize>,
+) -> Result<(), AllocError> {
+    for used in &uses_of_import(alloc, all, found, at)? {
+        if comes_before(order, *used, at) {
+            needs.push(*used)?;
         }
-        add_needs(types, found, import.kind, &mut needs)?;
+    }
+    Ok(())
+}
+
+/// Where the imports stand that the one at a place uses or is made of.
+fn needs_of_import(
+    alloc: Global,
+    all: Importing<'_>,
+    found: &NamedMap<usize>,
+    order: &IndexSet<usize>,
+    places: &mut TypePlaces,
+    at: usize,
+) -> Result<Vec<usize>, AllocError> {
+    let mut needs = Vec::new(alloc);
+    let Some(import) = import_at(all.types, all.world, at) else {
+        return Ok(needs);
+    };
+    match place_of_used(all, found, import) {
+        Some(place) => needs.push(place)?,
+        None => {
+            add_uses_before(alloc, all, found, order, at, &mut needs)?;
+            places.add_needs(all.types, import.kind, &mut needs)?;
+        }
     }
     Ok(needs)
 }
 
-/// Of each import, where those stand that it uses.
+/// Of each import, where those stand that it uses or is made of. Of interfaces that use each other in a circle each needs
+/// those alone that come before it when there are no used types, which could bring another of them forward.
 fn needs_of_imports(
     alloc: Global,
     all: Importing<'_>,
     found: &NamedMap<usize>,
 ) -> Result<Vec<Vec<usize>>, AllocError> {
+    let order = interfaces_in_order(alloc, all, found)?;
+    let mut places = TypePlaces::of(alloc, all)?;
     let mut needs = Vec::new(alloc);
     for at in 0..import_count(all.types, all.world) {
-        needs.push(needs_of_import(alloc, all, found, at)?)?;
+        needs.push(needs_of_import(alloc, all, found, &order, &mut places, at)?)?;
     }
     Ok(needs)
 }
@@ -326,10 +400,10 @@ impl Order {
 /// Where the imports of a world stand, in the order in which they are written.
 #[derive(Drop)]
 pub struct ImportOrder {
-    /// Resources under their own names, then instances and what the world uses of them, each behind what it uses
-    /// itself. Of instances that use each other in a circle the one that is asked first comes last.
+    /// Resources under their own names, then instances and what is used of them, each behind what it uses itself. Of
+    /// instances that use each other in a circle the one that is asked first comes last.
     pub sources: Vec<usize>,
-    /// Other types, then what else there is.
+    /// Other types, each behind those of which it is made, then what else there is.
     pub others: Vec<usize>,
 }
 
@@ -356,7 +430,7 @@ pub(crate) fn order_of(
     ensures sources { IfOk result (λ o. SourcesFirst all.entry o.sources.items) }
     ensures distinct { AreDistinct (names_of (all_imports all.entry)) }
 {
-    let turns = turns_of(alloc, all)?;
+    let turns = turns_of(alloc, all, found)?;
     let needs = needs_of_imports(alloc, all, found)?;
     let mut order = Order::new(alloc, needs, turns)?;
     put_sources_and_others(&mut order)

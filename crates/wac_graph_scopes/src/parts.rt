@@ -14,7 +14,7 @@ ghost use Rattle.wac_types_base.specs.Parts.{identifier_in};
 ghost use Rattle.wac_graph_scopes.specs.Parts.{interface_in, exports_of, uses_of, world_uses_of, imports_of, world_exports_of};
 ghost use Rattle.wac_graph_scopes.specs.Parts.{IsUse, IsUseAt, IsUsedKind, IsOfInterface, IsOfWorld, IsFresh, IsRootName};
 
-use wac_types_base::{InterfaceId, ItemKind, ResourceId, Type, Types, UsedType, WorldId};
+use wac_types_base::{InterfaceId, ItemKind, NamedMap, ResourceId, Type, Types, UsedType, WorldId};
 
 /// A type that is used: its name, its name in the interface, and that.
 #[derive(Clone, Copy)]
@@ -233,10 +233,16 @@ pub fn world_use_at(types: &Types, id: WorldId, at: usize) -> Option<Use<'_>>
 
 /// The world's use that gives a name.
 pub fn world_use_named<'a>(types: &'a Types, id: WorldId, name: &'a str) -> Option<Use<'a>> {
-    if !types.has(ItemKind::Component(id)) {
-        return None;
+    if types.has(ItemKind::Component(id)) {
+        use_named(&types.world(id).uses, name)
+    } else {
+        None
     }
-    match types.world(id).uses.get(name) {
+}
+
+/// The use among these that gives a name.
+pub fn use_named<'a>(uses: &'a NamedMap<UsedType>, name: &'a str) -> Option<Use<'a>> {
+    match uses.get(name) {
         Some(used) => Some(use_of(name, used)),
         None => None,
     }

@@ -1,29 +1,30 @@
 //! A scope of written types.
 
-ghost use Rattle.std.specs.Prelude.{◌≡◌, ◌+◌, ◌-◌, ◌^◌, ◌↔◌, min, List, [], ◌∷◌, ◌++◌, slice_get, Some, IfSome, IfNone, OnOk, IsTrue, nat_eq, ℕ, string_bytes};
+ghost use Rattle.std.specs.Prelude.{◌≡◌, ◌+◌, ◌-◌, ◌^◌, ◌↔◌, min, List, [], ◌∷◌, ◌++◌, slice_get, Some, IfSome, IfNone, IsSome, true, OnOk, IsTrue, nat_eq, ℕ, string_bytes};
 ghost use Rattle.wac_types_base.specs.Record.{Collection};
 ghost use Rattle.std.specs.Map.{lookup};
 ghost use Rattle.wac_types_base.specs.Entries.{value_at};
 ghost use Rattle.wac_types_base.specs.contracts.ids.DefinedTypeIdPartialEq.TheImpl.{eq-value};
+ghost use Rattle.wac_types_base.specs.contracts.ids.ResourceIdPartialEq.TheImpl.{eq-value as same_resource};
 ghost use Rattle.wac_graph_scopes.specs.declared.scope.KnownType.{KnownType};
 ghost use Rattle.wac_graph_bytes.specs.Typing.{Worlds, Scope, nothing_inside};
 ghost use Rattle.wac_graph_scopes.specs.Prints.{ArePrints};
-ghost use Rattle.wac_graph_scopes.specs.Known.{ArePlaces, HasId, FindsPrint};
-ghost use Rattle.wac_graph_scopes.specs.Scopes.{AreKnown, IsScope, Exchanges, FindsType, Defines, MakesEntry, ExportsFunction, ExportsNewType, Remembers, FindsKnown, KnowsResource, NotesResource};
+ghost use Rattle.wac_graph_scopes.specs.Known.{ArePlaces, HasId, IsIndexOf, FindsPrint};
+ghost use Rattle.wac_graph_scopes.specs.Scopes.{AreKnown, PutsKnown, IsScope, Exchanges, FindsType, Defines, MakesEntry, ExportsFunction, ExportsNewType, Remembers, FindsKnown, KnowsResource, NotesResource, NotesEntry};
 
 use crate::prints::Prints;
 use indexmap::IndexMap;
 use std::alloc::{AllocError, Global};
 use std::mem;
 use wac_graph_bytes::{Declaration, DefinedType, Description};
-use wac_types_base::{DefinedTypeId, NamedMap};
+use wac_types_base::{DefinedTypeId, NamedMap, ResourceId};
 
 /// A type of a collection that is written, and its index.
 #[derive(Clone, Copy)]
 pub struct KnownType {
     pub id: DefinedTypeId,
     pub index: u64,
-    /// Whether it has a name here.
+    /// Whether it has a name of its own here.
     pub named: bool,
 }
 
@@ -32,6 +33,8 @@ pub struct KnownType {
 pub struct KnownTypes {
     pub all: Vec<KnownType>,
     pub places: Places,
+    /// The indexes of resources, by their own entries.
+    pub resources: IndexMap<ResourceId, u64>,
 }
 
 /// Where types stand in the list of those that are known.
@@ -125,7 +128,22 @@ impl KnownTypes {
         KnownTypes {
             all: Vec::new(alloc),
             places: Places::new(alloc),
+            resources: IndexMap::new(alloc),
         }
+    }
+
+    /// Puts a type at an index, in place of an earlier one of its id.
+    pub fn put(&mut self, id: DefinedTypeId, index: u64) -> Result<(), AllocError>
+        ensures { PutsKnown id index self.old self.new result }
+    {
+        let at = self.all.len();
+        self.places.by_id.insert(id, at)?;
+        self.all.push(KnownType {
+            id,
+            index,
+            named: false,
+        })?;
+        Ok(())
     }
 }
 
@@ -202,15 +220,63 @@ impl TypeScope {
 
     /// Remembers the index of a resource.
     pub fn add_resource(&mut self, name: String, index: u64) -> Result<(), AllocError>
-        ensures { NotesResource (string_bytes name) index self.old self.new result }
+        ensures notes { NotesResource (string_bytes name) index self.old self.new result }
+        ensures known { self.new.known ≡ self.old.known }
     {
         let _ = self.resources.insert(name, index)?;
         Ok(())
     }
 
+    /// Remembers the index of a resource's own entry, unless one is remembered.
+    pub fn add_entry(&mut self, id: ResourceId, index: u64) -> Result<(), AllocError>
+        ensures notes { (c : Collection) → NotesEntry c id index self.old self.new result }
+        ensures own { OnOk result (IsSome (lookup (same_resource.it id) self.new.known.resources.entries)) }
+        ensures keeps { (r : ResourceId) → IsSome (lookup (same_resource.it r) self.old.known.resources.entries)
+            → IsSome (lookup (same_resource.it r) self.new.known.resources.entries) }
+    {
+        match self.entry(id) {
+            Some(_) => Ok(()),
+            None => {
+                let _ = self.known.resources.insert(id, index)?;
+                Ok(())
+            }
+        }
+    }
+
+    /// The index of a resource's own entry.
+    pub fn entry(&self, id: ResourceId) -> Option<u64>
+        ensures { result ≡ lookup (same_resource.it id) self.now.known.resources.entries }
+    {
+        match self.known.resources.get(&id) {
+            Some(index) => Some(*index),
+            None => None,
+        }
+    }
+
+    /// Whether a type is remembered under a name of its own.
+    pub(crate) fn is_named(&self, id: DefinedTypeId) -> bool
+        ensures { result ≡ true → HasId self.now.known.all.items id }
+    {
+        match self.known.places.place_of_id(id) {
+            Some(at) => self.is_named_at(at, id),
+            None => false,
+        }
+    }
+
+    /// Whether what is remembered at a place is the type, under a name of its own.
+    fn is_named_at(&self, at: usize, id: DefinedTypeId) -> bool
+        ensures { result ≡ true → HasId self.now.known.all.items id }
+    {
+        match self.known_at(at) {
+            Some(known) => is_same_id(known.id, id) && known.named,
+            None => false,
+        }
+    }
+
     /// The index of a type that is written already.
     pub fn known(&self, id: DefinedTypeId) -> Option<u64>
         ensures reads { (c : Collection) → FindsType c self.now id result }
+        ensures own { (k : ℕ) → IsIndexOf self.now.known id k → result ≡ Some k }
         ensures found { IfSome result (λ _. HasId self.now.known.all.items id) }
         ensures none { (c : Collection) → ArePlaces c self.now.known → IfNone result (HasId self.now.known.all.items id → ⊥) }
     {
@@ -223,6 +289,7 @@ impl TypeScope {
     /// The index of what is remembered at a place, if it is the type.
     fn known_as(&self, at: usize, id: DefinedTypeId) -> Option<u64>
         ensures reads { (c : Collection) → FindsType c self.now id result }
+        ensures own { (k : KnownType) → slice_get self.now.known.all.items at ≡ Some k → k.id ≡ id → result ≡ Some k.index }
         ensures found { IfSome result (λ _. HasId self.now.known.all.items id) }
         ensures none { IfNone result ((k : KnownType) → slice_get self.now.known.all.items at ≡ Some k → k.id ≡ id → ⊥) }
     {

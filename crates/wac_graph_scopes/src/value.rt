@@ -1,44 +1,32 @@
 //! Types of values and functions in a scope of written types.
 
-ghost use Rattle.std.specs.Prelude.{◌≡◌, IfNone, IfOk, IfErr, OnOk, true, false};
+ghost use Rattle.std.specs.Prelude.{◌≡◌, ℕ, Some, IfNone, IfOk, IfErr, OnOk, true, false};
+ghost use Rattle.wac_types_base.specs.Record.{Collection};
+ghost use Rattle.wac_types_base.specs.declared.ids.DefinedTypeId.{DefinedTypeId};
 ghost use Rattle.wac_types_base.specs.declared.item.ItemKind.{ItemKind};
 ghost use Rattle.wac_types_base.specs.declared.item.ValueType.{ValueType};
-ghost use Rattle.wac_types_base.specs.declared.item.«Type».{«Type» as TypeKind};
-ghost use Rattle.wac_types_base.specs.Entries.{Name};
-ghost use Rattle.wac_types_base.specs.Collection.{Stands, resource, StandsIf};
+ghost use Rattle.wac_types_base.specs.Collection.{Stands, StandsIf};
 ghost use Rattle.wac_types_base.specs.Resolving.{IsNoAlias};
-ghost use Rattle.wac_types_base.specs.Tree.{rigid, end};
 ghost use Rattle.wac_types_fit.specs.Trees.{tree_in, Fit};
 ghost use Rattle.wac_types_fit.specs.Checking.{value_in, HoldsValues, value_tree, place_trees};
 ghost use Rattle.wac_graph_scopes.specs.declared.fault.WriteError.{WriteError};
-ghost use Rattle.wac_graph_scopes.specs.Known.{type_tree, IsFound, DiffersAt, KeepsKnown};
-ghost use Rattle.wac_graph_scopes.specs.Refusals.{IsUnnamed, Refused, RefusedParts, RefusedApart, RefusedPlace, RefusedThere, RefusedThereApart};
-ghost use Rattle.wac_graph_scopes.specs.Scopes.{KeepsScope, FindsType, FindsTree, FindsAll, WritesValue, WritesDefined, WritesType, WritesPlaces, WritesPlace, WritesEntry, WritesIndex, MakesEntry, RemembersOne, NotesResource, NotesValue, FindsResource};
+ghost use Rattle.wac_graph_scopes.specs.Known.{type_tree, HasId, IsIndexOf, DiffersAt, KeepsKnown};
+ghost use Rattle.wac_graph_scopes.specs.Refusals.{FindsNeeded, FindsAll, Refused, RefusedParts, RefusedApart, RefusedPlace, RefusedThere, RefusedThereApart};
+ghost use Rattle.wac_graph_scopes.specs.Scopes.{KeepsScope, FindsType, FindsTree, FindsValue, WritesValue, WritesOwn, WritesDefined, WritesType, WritesPlaces, WritesPlace, WritesEntry, WritesIndex, MakesEntry, RemembersOne, RemembersValue, NotesValue, NotesOwn};
 
 use crate::entry::{entry_of, func_entry_of};
 use crate::fault::WriteError;
+use crate::lacking::lacks_resource;
 use crate::prints::value_of;
+use crate::resources::resource_of;
 use crate::scope::{KnownType, TypeScope};
 use std::alloc::Global;
 use wac_graph_bytes::{DefinedType as TypeEntry, ValueType as Written};
 use wac_types_base::replace::is_same;
-use wac_types_base::{DefinedTypeId, FuncTypeId, ItemKind, ResourceId, Types, ValueType};
+use wac_types_base::{
+    DefinedType, DefinedTypeId, FuncTypeId, ItemKind, ResourceId, Types, ValueType,
+};
 use wac_types_fit::{SubtypeChecker, SubtypeError, new_cache};
-
-/// The index of a resource in the scope.
-fn resource_of(scope: &TypeScope, types: &Types, id: ResourceId) -> Result<u64, WriteError>
-    requires { Stands types.now (ItemKind.Ty (TypeKind.Resource id)) }
-    ensures reads { FindsResource types.now (tree_in types.now (ItemKind.Ty (TypeKind.Resource id))) scope.now result }
-    ensures root { (n : Name) × (tree_in types.now (ItemKind.Ty (TypeKind.Resource id)) ≡ rigid (resource n) end) }
-    ensures unnamed { IfErr result (λ _. IsUnnamed types.now scope.now.resources id) }
-    ensures refused { IfErr result (λ e. e ≡ WriteError.Unwritable) }
-{
-    let root = types.resource(types.resolve_resource(id));
-    match scope.resource(root.name.as_str()) {
-        Some(index) => Ok(index),
-        None => Err(WriteError::Unwritable),
-    }
-}
 
 /// The index of a type entry that is such a handle.
 fn define_own(scope: &mut TypeScope, types: &Types, id: ResourceId) -> Result<u64, WriteError>
@@ -94,6 +82,25 @@ fn push_borrow(scope: &mut TypeScope, types: &Types, id: ResourceId) -> Result<W
     Ok(Written::Index(index))
 }
 
+/// The index of a value type that is known by its entry: its own, else the next along its aliases that is known.
+fn known_value(scope: &TypeScope, types: &Types, ty: ValueType) -> Option<u64>
+    requires { Stands types.now (ItemKind.Value ty) }
+    ensures reads { FindsValue types.now scope.now ty result }
+    ensures own { (d : DefinedTypeId) (k : ℕ) → ty ≡ ValueType.Defined d → IsIndexOf scope.now.known d k → result ≡ Some k }
+{
+    types.see_acyclic();
+    let ValueType::Defined(own) = ty else {
+        return None;
+    };
+    match scope.known(own) {
+        Some(index) => Some(index),
+        None => match types.defined_type(own) {
+            DefinedType::Alias(source) => known_value(scope, types, *source),
+            _ => None,
+        },
+    }
+}
+
 /// The written form of a value type.
 #[cycle(values)]
 pub(crate) fn push_value(
@@ -104,11 +111,15 @@ pub(crate) fn push_value(
 ) -> Result<Written, WriteError>
     requires { Stands types.now (ItemKind.Value ty) }
     ensures writes { WritesValue types.now (tree_in types.now (ItemKind.Value ty)) scope.old scope.new result }
+    ensures own { WritesOwn scope.old ty result }
     ensures refused { IfErr result (Refused types.now (ItemKind.Value ty) scope.old scope.new) }
     ensures known { OnOk result (KeepsKnown scope.old.known.all.items scope.new.known.all.items) }
     ensures resources { scope.new.resources ≡ scope.old.resources }
 {
     types.see_acyclic();
+    if let Some(index) = known_value(scope, types, ty) {
+        return Ok(Written::Index(index));
+    }
     let end = types.resolve_value_type(ty);
     push_resolved(alloc, scope, types, end)
 }
@@ -256,12 +267,74 @@ fn equal_index(
     Ok(found)
 }
 
-/// The index of a type that is written already, or of one with a name that is equal.
+/// The index of a type with a name that is equal, if the type cannot be written anew: a handle in it is of a resource
+/// that does not stand here.
+fn needed_index(
+    alloc: Global,
+    scope: &mut TypeScope,
+    types: &Types,
+    id: DefinedTypeId,
+) -> Result<Option<u64>, WriteError>
+    requires { Stands types.now (ItemKind.Value (ValueType.Defined id)) }
+    ensures keeps { KeepsScope types.now scope.old scope.new }
+    ensures reads { IfOk result (λ o. FindsType types.now scope.old id o) }
+    ensures none { IfOk result (FindsNeeded types.now scope.old id) }
+    ensures refused { IfErr result (λ e. e ≡ WriteError.Memory) }
+    ensures known { scope.new.known.all ≡ scope.old.known.all }
+    ensures resources { scope.new.resources ≡ scope.old.resources }
+{
+    let found = equal_index(alloc, scope, types, id)?;
+    match found {
+        Some(index) => {
+            let lacks = lacks_resource(alloc, scope, types, id)?;
+            if lacks { Ok(Some(index)) } else { Ok(None) }
+        }
+        None => Ok(None),
+    }
+}
+
+/// Whether a type of this form has to have a name where it is imported or exported.
+fn is_nominal(ty: &DefinedType) -> bool {
+    matches!(
+        ty,
+        DefinedType::Record(_)
+            | DefinedType::Variant(_)
+            | DefinedType::Enum(_)
+            | DefinedType::Flags(_)
+    )
+}
+
+/// The index of a type with a name that is equal, perhaps only if the type cannot be written anew.
+fn equal_or_needed(
+    alloc: Global,
+    scope: &mut TypeScope,
+    types: &Types,
+    id: DefinedTypeId,
+    by_name: bool,
+) -> Result<Option<u64>, WriteError>
+    requires { Stands types.now (ItemKind.Value (ValueType.Defined id)) }
+    ensures keeps { KeepsScope types.now scope.old scope.new }
+    ensures reads { IfOk result (λ o. FindsType types.now scope.old id o) }
+    ensures none { IfOk result (FindsNeeded types.now scope.old id) }
+    ensures refused { IfErr result (λ e. e ≡ WriteError.Memory) }
+    ensures known { scope.new.known.all ≡ scope.old.known.all }
+    ensures resources { scope.new.resources ≡ scope.old.resources }
+{
+    if by_name {
+        equal_index(alloc, scope, types, id)
+    } else {
+        needed_index(alloc, scope, types, id)
+    }
+}
+
+/// The index of a type that is written already, or of one with a name that has to be the type: of an equal one where
+/// the type is spoken of and has to have a name, else only where it cannot be written anew.
 fn known_index(
     alloc: Global,
     scope: &mut TypeScope,
     types: &Types,
     id: DefinedTypeId,
+    is_item: bool,
 ) -> Result<Option<u64>, WriteError>
     requires { Stands types.now (ItemKind.Value (ValueType.Defined id)) }
     ensures keeps { KeepsScope types.now scope.old scope.new }
@@ -271,10 +344,11 @@ fn known_index(
     ensures known { scope.new.known.all ≡ scope.old.known.all }
     ensures resources { scope.new.resources ≡ scope.old.resources }
 {
-    match scope.known(id) {
-        Some(index) => Ok(Some(index)),
-        None => equal_index(alloc, scope, types, id),
+    if let Some(index) = scope.known(id) {
+        return Ok(Some(index));
     }
+    let by_name = !is_item && is_nominal(types.defined_type(id));
+    equal_or_needed(alloc, scope, types, id, by_name)
 }
 
 /// Remembers the index of a type that has a name here.
@@ -286,7 +360,7 @@ fn note_named(
 ) -> Result<(), WriteError>
     requires { Stands types.now (ItemKind.Value (ValueType.Defined id)) }
     ensures remembers { RemembersOne types.now id index scope.old scope.new result }
-    ensures found { OnOk result (IsFound types.now scope.new.known.all.items id) }
+    ensures found { OnOk result (HasId scope.new.known.all.items id) }
 {
     let print = scope.known.places.prints.of(types, ValueType::Defined(id))?;
     let at = scope.known.all.len();
@@ -299,45 +373,29 @@ fn note_named(
     Ok(())
 }
 
-/// Remembers the index of a resource, unless one stands under its name.
-pub(crate) fn note_resource(
-    alloc: Global,
-    scope: &mut TypeScope,
-    name: &str,
-    index: u64,
-) -> Result<(), WriteError>
-    ensures { NotesResource name.now index scope.old scope.new result }
-{
-    match scope.resource(name) {
-        Some(_) => Ok(()),
-        None => {
-            let name = String::from_str(alloc, name)?;
-            Ok(scope.add_resource(name, index)?)
-        }
-    }
-}
-
-/// Remembers the index of a value type, unless one is remembered.
+/// Remembers the index of a value type's entry, and of the one at the end of its aliases where none stands for it yet.
 pub(crate) fn note_value(
     scope: &mut TypeScope,
     types: &Types,
     ty: ValueType,
     index: u64,
 ) -> Result<(), WriteError>
-    ensures { NotesValue types.now ty index scope.old scope.new result }
+    ensures notes { NotesValue types.now ty index scope.old scope.new result }
+    ensures own { NotesOwn types.now ty scope.new result }
 {
+    let ValueType::Defined(id) = ty else {
+        return Ok(());
+    };
     if !types.has(ItemKind::Value(ty)) {
         return Ok(());
     }
     types.see_acyclic();
-    match types.resolve_value_type(ty) {
-        ValueType::Defined(id) => note_defined(scope, types, id, index),
-        _ => Ok(()),
-    }
+    note_own(scope, types, id, index)?;
+    note_end(scope, types.resolve_value_type(ty), index)
 }
 
-/// Remembers the index of a defined type that is no alias, unless one is remembered.
-fn note_defined(
+/// Remembers the index of a defined type as one under a name of its own, unless one is remembered so.
+fn note_own(
     scope: &mut TypeScope,
     types: &Types,
     id: DefinedTypeId,
@@ -345,11 +403,32 @@ fn note_defined(
 ) -> Result<(), WriteError>
     requires { Stands types.now (ItemKind.Value (ValueType.Defined id)) }
     ensures remembers { RemembersOne types.now id index scope.old scope.new result }
-    ensures found { OnOk result (IsFound types.now scope.new.known.all.items id) }
+    ensures found { OnOk result (HasId scope.new.known.all.items id) }
 {
+    if scope.is_named(id) {
+        return Ok(());
+    }
+    note_named(scope, types, id, index)
+}
+
+/// Remembers the index of a value type without a name, unless one is remembered.
+fn note_end(scope: &mut TypeScope, ty: ValueType, index: u64) -> Result<(), WriteError>
+    ensures remembers { (c : Collection) → RemembersValue c ty index scope.old scope.new result }
+    ensures keeps { OnOk result (KeepsKnown scope.old.known.all.items scope.new.known.all.items) }
+{
+    let ValueType::Defined(id) = ty else {
+        return Ok(());
+    };
     match scope.known(id) {
         Some(_) => Ok(()),
-        None => note_named(scope, types, id, index),
+        None => {
+            scope.remember(KnownType {
+                id,
+                index,
+                named: false,
+            })?;
+            Ok(())
+        }
     }
 }
 
@@ -368,8 +447,13 @@ pub(crate) fn define_value(
         return Err(WriteError::Unwritable);
     }
     types.see_acyclic();
+    if let Some(index) = known_value(scope, types, ty) {
+        return Ok(index);
+    }
     match types.resolve_value_type(ty) {
-        ValueType::Defined(id) => define_once(alloc, scope, types, id),
+        ValueType::Defined(id) => {
+            define_once(alloc, scope, types, id, ty == ValueType::Defined(id))
+        }
         end => define_plain(alloc, scope, types, end),
     }
 }
@@ -397,12 +481,14 @@ fn define_plain(
     }
 }
 
-/// The index of a defined type that is no alias: that of the entry that is known, else of one that is written.
+/// The index of a defined type that is no alias: that of the entry that is known, else of one that is written. It is an
+/// item's own entry, or at the end of its aliases.
 fn define_once(
     alloc: Global,
     scope: &mut TypeScope,
     types: &Types,
     id: DefinedTypeId,
+    is_item: bool,
 ) -> Result<u64, WriteError>
     requires stands { Stands types.now (ItemKind.Value (ValueType.Defined id)) }
     requires no_alias { IsNoAlias types.now (ValueType.Defined id) }
@@ -411,7 +497,7 @@ fn define_once(
     ensures refused { IfErr result (Refused types.now (ItemKind.Value (ValueType.Defined id)) scope.old scope.new) }
     ensures resources { scope.new.resources ≡ scope.old.resources }
 {
-    match known_index(alloc, scope, types, id)? {
+    match known_index(alloc, scope, types, id, is_item)? {
         Some(index) => Ok(index),
         None => define_entry(alloc, scope, types, id),
     }
@@ -477,7 +563,7 @@ fn push_defined(
     ensures known { OnOk result (KeepsKnown scope.old.known.all.items scope.new.known.all.items) }
     ensures resources { scope.new.resources ≡ scope.old.resources }
 {
-    let known = known_index(alloc, scope, types, id)?;
+    let known = known_index(alloc, scope, types, id, false)?;
     if let Some(index) = known {
         return Ok(Written::Index(index));
     }

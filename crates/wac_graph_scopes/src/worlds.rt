@@ -21,7 +21,7 @@ use crate::parts::{
 use crate::used::TypeName;
 use std::alloc::{AllocError, Global};
 use wac_graph_bytes::{Declaration, Description};
-use wac_types_base::{InterfaceId, ItemKind, Names, Types, WorldId};
+use wac_types_base::{InterfaceId, ItemKind, NamedMap, Names, Types, WorldId};
 
 /// Writes the imports at places of a world.
 #[cycle(types)]
@@ -411,10 +411,12 @@ fn begun(alloc: Global, all: Importing<'_>) -> Result<ImportScope, AllocError>
 fn package_type(alloc: Global, types: &Types, id: WorldId) -> Result<Vec<Declaration>, WriteError>
     ensures { MakesComponent types.now id result }
 {
+    let uses = NamedMap::new(alloc);
     let all = Importing {
         types,
         world: id,
         called: &[],
+        uses: &uses,
         over_exports: true,
     };
     let mut scope = begun(alloc, all)?;
@@ -430,10 +432,12 @@ pub(crate) fn component_type(
 ) -> Result<Vec<Declaration>, WriteError>
     ensures { MakesComponent types.now id result }
 {
+    let uses = NamedMap::new(alloc);
     let all = Importing {
         types,
         world: id,
         called: &[],
+        uses: &uses,
         over_exports: false,
     };
     let mut scope = begun(alloc, all)?;

@@ -24,10 +24,11 @@ returns-clause-begins c to bare w told =
     let from = all.1.writing.inside in
     let base : WritesOn w a.types.now [] a.world from c.write_outers.new.scope all.0 [] = record { goes = all.1; on = GoesOn-refl from } in
     let scope = c.write_definitions.new.scope in
-    let are : AreDefined g w a from all.0 c.args.writing.definitions.now scope c.in_ok-root.field-0.entries = c.in_ok-root.ensures c.see_sound.ensures to.definitions w from all.0 base in
+    let are : AreDefined g w a from all.0 c.args.writing.definitions.now scope c.in_ok-nodes.nodes.entries c.in_ok-nodes.early.entries = c.in_ok-nodes.ensures c.see_sound.ensures to.definitions w from all.0 base in
     let goes = are.holds.written.goes in
-    let rooted : IsRooted g w a.called.now goes.writing.inside c.in_ok-root.field-0.entries scope.places.items = record {
+    let rooted : IsRooted g w a.called.now goes.writing.inside c.in_ok-nodes.nodes.entries c.in_ok-nodes.early.entries scope.places.items = record {
       nodes_stand = are.holds.stand;
+      are_early = are.holds.exported;
       outers_stand = outers_stand g c.see_sound.ensures finite a.types.now acyclic a.world a.called.now to.outers w goes.writing.inside scope.places.items goes.placed;
     } in
     on_ok_weaker c.write_packages.result
@@ -52,7 +53,7 @@ returns-clause-holds c to =
     let from = all.1.writing.inside in
     let base : WritesOn w a.types.now [] a.world from c.write_outers.new.scope all.0 [] = record { goes = all.1; on = GoesOn-refl from } in
     let scope = c.write_definitions.new.scope in
-    let are : AreDefined g w a from all.0 x.definitions.now scope c.in_ok-root.field-0.entries = c.in_ok-root.ensures c.see_sound.ensures to.definitions w from all.0 base in
+    let are : AreDefined g w a from all.0 x.definitions.now scope c.in_ok-nodes.nodes.entries c.in_ok-nodes.early.entries = c.in_ok-nodes.ensures c.see_sound.ensures to.definitions w from all.0 base in
     let placed = calls_placed w g a.types.now a.world a.called.now to.outers scope all.0 are.holds.written.goes all.2 in
     on_ok_weaker c.write_packages.result
     (λ h. record {

@@ -12,6 +12,7 @@ use Rattle.wac_graph_scopes.specs.Items.{GivesItem}
 use Rattle.wac_graph_scopes.specs.ItemRefusals.{RefusedType}
 use Rattle.wac_graph_scopes.proofs.UsedLaws.{func_item, value_item}
 use Rattle.wac_graph_scopes.proofs.WritingLaws.{resource_there, item_of_type}
+use Rattle.wac_graph_scopes.proofs.RefusedLaws.{if_err_both}
 use Rattle.wac_graph_scopes.proofs.items.push_type.Goals as goal
 
 pub returns-in-Resource-clause-states : goal.returns-in-Resource-clause-states
@@ -20,8 +21,8 @@ returns-in-Resource-clause-states c w outer i h =
     let id = c.in-Resource.id in
     let stands = subst (λ (t : TypeKind). Stands types (ItemKind.Ty t)) c.in-Resource.is c.requires in
     let same = ap (λ (t : TypeKind). tree_in types (ItemKind.Ty t)) (sym c.in-Resource.is) in
-    IfOk-weaker c.resource_index.result _ _ (λ k e. subst (λ (t : Tree). GivesItem w types outer i t c.args.scope.now k) same (resource_there w types outer i c.see_acyclic.ensures id c.args.scope.now k stands h e))
-    (c.resource_index.ensures.finds w outer i h.written)
+    IfOk-weaker c.resource_of.result _ _ (λ k e. subst (λ (t : Tree). GivesItem w types outer i t c.args.scope.now k) same (resource_there w types outer i c.see_acyclic.ensures id c.args.scope.now k stands h e))
+    (c.resource_of.ensures.reads w outer i h.written)
 
 pub returns-in-Func-clause-states : goal.returns-in-Func-clause-states
 returns-in-Func-clause-states c w outer i h =
@@ -42,7 +43,8 @@ returns-in-Value-clause-states c w outer i h =
 pub returns-in-Resource-clause-refused : goal.returns-in-Resource-clause-refused
 returns-in-Resource-clause-refused c =
     let types = c.args.types.now in
-    subst (λ (t : TypeKind). IfErr c.resource_index.result (RefusedType types t c.args.scope.now c.args.scope.now)) (sym c.in-Resource.is) c.resource_index.ensures.refused
+    let both = if_err_both c.resource_of.result _ _ c.resource_of.ensures.refused c.resource_of.ensures.unnamed in
+    subst (λ (t : TypeKind). IfErr c.resource_of.result (RefusedType types t c.args.scope.now c.args.scope.now)) (sym c.in-Resource.is) both
 
 pub returns-in-Func-clause-refused : goal.returns-in-Func-clause-refused
 returns-in-Func-clause-refused c =

@@ -13,17 +13,30 @@ use Rattle.wac_types_fit.proofs.ValueTrees.{place_size, place_inside, defined_ho
 use Rattle.wac_graph_bytes.specs.declared.value.ValueType.TheVariants.{Primitive, Index}
 use Rattle.wac_graph_bytes.specs.Typing.{value_of}
 use Rattle.wac_graph_scopes.specs.Forms.{entry_of}
-use Rattle.wac_graph_scopes.specs.Scopes.{AnswersPlaces, FindsAll}
+use Rattle.wac_graph_scopes.specs.Scopes.{AnswersPlaces}
 use Rattle.wac_graph_scopes.proofs.ValueLaws.{value_of_tree, value_there, value_written, value_remembered, places_none, places_next, trees_next, trees_all}
 use Rattle.wac_graph_scopes.proofs.HandleLaws.{take_zero, place_none, place_some}
 use Rattle.wac_graph_scopes.proofs.PlaceLaws.{known_same_list, known_pushed}
-use Rattle.wac_graph_scopes.proofs.RefusedLaws.{if_err_map, alias_refused, place_refused, parts_refused, later_same_list}
+use Rattle.wac_graph_scopes.proofs.RefusedLaws.{if_err_map, alias_refused, place_refused, whole_refused, later_same_list}
 use Rattle.wac_graph_scopes.proofs.value.+values.Goals as goal
 
 pub push_value-push_resolved-requires : goal.push_value-push_resolved-requires
 push_value-push_resolved-requires t c =
     let smaller = end_smaller c.args.types.now c.see_acyclic.ensures c.args.ty c.resolve_value_type-end.result c.resolve_value_type-end.ensures.resolved c.requires in
     (omega (arith, smaller, c.decreases), (c.resolve_value_type-end.ensures.stands, end_no_alias c.args.types.now c.see_acyclic.ensures c.resolve_value_type-end.ensures.resolved))
+
+pub push_value-returns-in-Some-clause-writes : goal.push_value-returns-in-Some-clause-writes
+push_value-returns-in-Some-clause-writes t c w outer i h =
+    let types = c.args.types.now in
+    value_there w types outer i (tree_in types (ItemKind.Value c.args.ty)) c.args.scope.now (Index c.in-Some.index) h (c.in-Some.ensures.reads w outer i h)
+
+pub push_value-returns-in-Some-clause-own : goal.push_value-returns-in-Some-clause-own
+push_value-returns-in-Some-clause-own t c d k e is =
+    let same : c.in-Some.index ≡ k = cc (c.in-Some.ensures.own d k e is) in
+    ap Index same
+
+pub push_value-returns-clause-own : goal.push_value-returns-clause-own
+push_value-returns-clause-own t c d k e is = absurd (cc (c.in_default.ensures.own d k e is))
 
 pub push_value-returns-clause-writes : goal.push_value-returns-clause-writes
 push_value-returns-clause-writes t c w outer i h =
@@ -158,9 +171,10 @@ push_defined-returns-in_err-index-clause-refused t c =
     let p = err_from_is_err_and c.from_residual-in_err-index.result c.from_residual-in_err-index.ensures.1 in
     let s = c.args.scope.now in
     let mid = c.known_index.new.scope in
+    let u = c.define_entry.new.scope in
     let later = later_same_list types s mid c.known_index.ensures.keeps c.known_index.ensures.known in
-    let unknown = subst (FindsAll types s c.args.id) c.in_default.is c.in_ok-known.ensures.none in
-    rw (p.1, p.2) (parts_refused types (ItemKind.Value (ValueType.Defined c.args.id)) s mid c.define_entry.new.scope c.in_err-index.field-0.0 later (λ no_alias there. unknown there) c.in_err-index.ensures.refused)
+    let resources = c.in_err-index.ensures.resources ∙ c.known_index.ensures.resources in
+    rw (p.1, p.2) (whole_refused types c.args.id s mid u c.in_err-index.field-0.0 c.in_ok-known.known later resources c.in_default.is c.in_ok-known.ensures.none c.in_err-index.ensures.refused)
 
 pub push_defined-returns-clause-known : goal.push_defined-returns-clause-known
 push_defined-returns-clause-known t c k m =

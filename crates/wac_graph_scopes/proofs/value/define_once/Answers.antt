@@ -1,11 +1,11 @@
-use Rattle.std.proofs.Common.{◌∷◌, subst}
+use Rattle.std.proofs.Common.{◌∷◌, ◌∙◌, subst}
 use Rattle.std.specs.Prelude.{IfSome}
 use Rattle.std.proofs.lemmas.Result.{IfOk-weaker}
 use Rattle.wac_types_base.specs.declared.item.ItemKind.{ItemKind}
 use Rattle.wac_types_base.specs.declared.item.ValueType.{ValueType}
 use Rattle.wac_types_fit.specs.Trees.{tree_in}
-use Rattle.wac_graph_scopes.specs.Scopes.{StandsFor, FindsAll}
-use Rattle.wac_graph_scopes.proofs.RefusedLaws.{if_err_map, parts_refused, later_same_list}
+use Rattle.wac_graph_scopes.specs.Scopes.{StandsFor}
+use Rattle.wac_graph_scopes.proofs.RefusedLaws.{if_err_map, whole_refused, later_same_list}
 use Rattle.wac_graph_scopes.proofs.UsedLaws.{type_there, type_answered}
 use Rattle.wac_graph_scopes.proofs.value.define_once.Goals as goal
 
@@ -24,9 +24,9 @@ returns-in-None-clause-writes c w outer i h =
 pub returns-in-None-clause-refused : goal.returns-in-None-clause-refused
 returns-in-None-clause-refused c =
     let types = c.args.types.now in
-    let id = c.args.id in
     let s = c.args.scope.now in
     let mid = c.known_index.new.scope in
-    let unknown = subst (FindsAll types s id) c.in-None.is c.in_ok-index.ensures.none in
-    if_err_map c.define_entry.result
-    (λ e h. parts_refused types (ItemKind.Value (ValueType.Defined id)) s mid c.define_entry.new.scope e (later_same_list types s mid c.known_index.ensures.keeps c.known_index.ensures.known) (λ no_alias there. unknown there) h) c.define_entry.ensures.refused
+    let u = c.define_entry.new.scope in
+    let later = later_same_list types s mid c.known_index.ensures.keeps c.known_index.ensures.known in
+    let resources = c.define_entry.ensures.resources ∙ c.known_index.ensures.resources in
+    if_err_map c.define_entry.result (λ e h. whole_refused types c.args.id s mid u e c.in_ok-index.field-0 later resources c.in-None.is c.in_ok-index.ensures.none h) c.define_entry.ensures.refused

@@ -1,4 +1,4 @@
-use Rattle.std.proofs.Common.{true, refl, sym, ap, subst, inl}
+use Rattle.std.proofs.Common.{true, refl, sym, ap, subst}
 use Rattle.wac_types_base.specs.Graph.{Among}
 use Rattle.wac_graph_scopes.specs.declared.scope.KnownType.{KnownType}
 use Rattle.wac_graph_scopes.specs.declared.scope.KnownTypes.{KnownTypes}
@@ -16,10 +16,10 @@ returns-clause-remembers c w outer i h e =
     let ks : KnownTypes = record s.known { places = ps } in
     let print = c.in_ok-print.ensures h.known.places.prints in
     let numbered = subst (ArePrints types) (sym c.note_print.ensures.prints) print.0 in
-    let mid = scope_printed w types outer i s ks refl (places_printed types s.known ks refl (ap (λ m. m.entries) c.note_print.ensures.ids) c.note_print.ensures.keeps numbered h.known.places) h in
+    let mid = scope_printed w types outer i s ks refl refl (places_printed types s.known ks refl (ap (λ m. m.entries) c.note_print.ensures.ids) c.note_print.ensures.keeps numbered h.known.places) h in
     c.in_ok-remember.ensures.known w types outer i mid (record { reads = e }) (λ is. (c.requires, subst (FindsPrint ps.by_print.entries) print.1 c.in_ok-note_print.ensures.found))
 
 pub returns-clause-found : goal.returns-clause-found
 returns-clause-found c =
     let k : KnownType = record { id = c.args.id; index = c.args.index; named = true } in
-    inl (k, subst (Among k) (sym c.in_ok-remember.ensures.all) (last_among _ k), refl)
+    (k, subst (Among k) (sym c.in_ok-remember.ensures.all) (last_among _ k), refl)

@@ -8,14 +8,14 @@ returns-clause-keeps c w outer i h =
     let types = c.args.types.now in
     let s = c.args.scope.now in
     let ks : KnownTypes = record s.known { places = record s.known.places { prints = c.of.new.self } } in
-    scope_printed w types outer i s ks refl (places_printed types s.known ks refl refl (λ n f. f) (c.in_ok-print.ensures h.known.places.prints).0 h.known.places) h
+    scope_printed w types outer i s ks refl refl (places_printed types s.known ks refl refl (λ n f. f) (c.in_ok-print.ensures h.known.places.prints).0 h.known.places) h
 
 pub returns-in_err-print-clause-keeps : goal.returns-in_err-print-clause-keeps
 returns-in_err-print-clause-keeps c w outer i h =
     let types = c.args.types.now in
     let s = c.args.scope.now in
     let ks : KnownTypes = record s.known { places = record s.known.places { prints = c.of.new.self } } in
-    scope_printed w types outer i s ks refl (places_printed types s.known ks refl refl (λ n f. f) (c.of.ensures h.known.places.prints).0 h.known.places) h
+    scope_printed w types outer i s ks refl refl (places_printed types s.known ks refl refl (λ n f. f) (c.of.ensures h.known.places.prints).0 h.known.places) h
 
 pub returns-then-is_empty-clause-none : goal.returns-then-is_empty-clause-none
 returns-then-is_empty-clause-none c h =

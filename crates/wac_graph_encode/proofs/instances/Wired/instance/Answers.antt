@@ -17,5 +17,6 @@ returns-clause-same c = record {
   graph = refl;
   outers = refl;
   packages = c.in_ok-place.ensures.packages;
+  exported = c.in_ok-place.ensures.exported;
   nested = entry_nests_none c.args.self.now.root.entries.items c.add_instance.new.self.entries.items (Instantiate c.component-component.result (arguments_view c.in_ok-arguments.arguments.items)) refl c.in_ok-place.ensures.entry;
 }

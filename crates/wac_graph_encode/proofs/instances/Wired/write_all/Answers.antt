@@ -34,7 +34,7 @@ returns-clause-finishes c = λ define worlds asked begun.
     let h = c.in_ok-write_nodes.ensures.writes define worlds asked first in
     let same = c.in_ok-write_nodes.ensures.keeps.same.graph in
     subst (λ g. IsFinished g worlds define asked c.push_exports.new.entries.items) (ap (λ r. r.now) same)
-    (exports_finished w.graph.now (subst (λ r. IsGraph r.now) (sym same) c.see_sound.ensures) worlds define asked w.outers w.root.packages.entries w.root.entries.items w.root.counts (noted w) h
+    (exports_finished w.graph.now (subst (λ r. IsGraph r.now) (sym same) c.see_sound.ensures) worlds define asked w.outers w.root.packages.entries w.root.exported w.root.entries.items w.root.counts (noted w) h
     c.push_exports.new.entries.items c.in_ok-write_nodes.ensures.all c.in_ok-push_exports.ensures)
 
 pub returns-clause-nests : goal.returns-clause-nests

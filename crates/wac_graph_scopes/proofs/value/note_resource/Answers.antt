@@ -1,8 +1,0 @@
-use Rattle.std.proofs.Common.{◌∷◌, sym, subst}
-use Rattle.wac_types_base.specs.Entries.{Name}
-use Rattle.wac_graph_scopes.specs.Scopes.{IsResource}
-use Rattle.wac_graph_scopes.proofs.value.note_resource.Goals as goal
-
-pub returns-in_ok-add_resource-in-None : goal.returns-in_ok-add_resource-in-None
-returns-in_ok-add_resource-in-None c w cc outer i h r =
-    c.in_ok-add_resource-in-None.ensures w cc outer i h (subst (λ (n : Name). IsResource w (i.here ∷ outer) n c.args.index) (sym c.in_ok-name-in-None.ensures.ok) r)
