@@ -204,6 +204,14 @@ FindsTree c s id o = IsScopeOf c s → IfNone o (HasTree c s.known.all.items (ty
 abbrev pub WritesOwn : {E : Type 0} → TypeScope → ValueType → Result Written E → Type 0
 WritesOwn s v r = (d : DefinedTypeId) (k : ℕ) → v ≡ ValueType.Defined d → IsIndexOf s.known d k → IfOk r (λ b. b ≡ Index k)
 
+-- a value type that is known by its own id has the index that is remembered of it
+abbrev pub FindsOwn : TypeScope → ValueType → Option ℕ → Type 0
+FindsOwn s v o = (d : DefinedTypeId) (k : ℕ) → v ≡ ValueType.Defined d → IsIndexOf s.known d k → o ≡ Some k
+
+-- a type that is remembered at a place has the index there
+abbrev pub FindsAt : TypeScope → ℕ → DefinedTypeId → Option ℕ → Type 0
+FindsAt s place id o = (k : KnownType) → slice_get s.known.all.items place ≡ Some k → k.id ≡ id → o ≡ Some k.index
+
 -- the index of a value type, or of a resource, if there is one
 abbrev pub FindsValue : Collection → TypeScope → ValueType → Option ℕ → Type 0
 FindsValue c s v o = (w : Worlds) (outer : List Scope) (i : Inside) → IsScope w c outer i s

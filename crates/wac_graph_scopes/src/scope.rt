@@ -10,7 +10,7 @@ ghost use Rattle.wac_graph_scopes.specs.declared.scope.KnownType.{KnownType};
 ghost use Rattle.wac_graph_bytes.specs.Typing.{Worlds, Scope, nothing_inside};
 ghost use Rattle.wac_graph_scopes.specs.Prints.{ArePrints};
 ghost use Rattle.wac_graph_scopes.specs.Known.{ArePlaces, HasId, IsIndexOf, FindsPrint};
-ghost use Rattle.wac_graph_scopes.specs.Scopes.{AreKnown, PutsKnown, IsScope, Exchanges, FindsType, Defines, MakesEntry, ExportsFunction, ExportsNewType, Remembers, FindsKnown, KnowsResource, NotesResource, NotesEntry};
+ghost use Rattle.wac_graph_scopes.specs.Scopes.{AreKnown, PutsKnown, IsScope, Exchanges, FindsAt, FindsType, Defines, MakesEntry, ExportsFunction, ExportsNewType, Remembers, FindsKnown, KnowsResource, NotesResource, NotesEntry};
 
 use crate::prints::Prints;
 use indexmap::IndexMap;
@@ -289,7 +289,7 @@ impl TypeScope {
     /// The index of what is remembered at a place, if it is the type.
     fn known_as(&self, at: usize, id: DefinedTypeId) -> Option<u64>
         ensures reads { (c : Collection) → FindsType c self.now id result }
-        ensures own { (k : KnownType) → slice_get self.now.known.all.items at ≡ Some k → k.id ≡ id → result ≡ Some k.index }
+        ensures own { FindsAt self.now at id result }
         ensures found { IfSome result (λ _. HasId self.now.known.all.items id) }
         ensures none { IfNone result ((k : KnownType) → slice_get self.now.known.all.items at ≡ Some k → k.id ≡ id → ⊥) }
     {

@@ -2,7 +2,6 @@
 
 ghost use Rattle.std.specs.Prelude.{◌≡◌, ℕ, Some, IfNone, IfOk, IfErr, OnOk, true, false};
 ghost use Rattle.wac_types_base.specs.Record.{Collection};
-ghost use Rattle.wac_types_base.specs.declared.ids.DefinedTypeId.{DefinedTypeId};
 ghost use Rattle.wac_types_base.specs.declared.item.ItemKind.{ItemKind};
 ghost use Rattle.wac_types_base.specs.declared.item.ValueType.{ValueType};
 ghost use Rattle.wac_types_base.specs.Collection.{Stands, StandsIf};
@@ -10,9 +9,9 @@ ghost use Rattle.wac_types_base.specs.Resolving.{IsNoAlias};
 ghost use Rattle.wac_types_fit.specs.Trees.{tree_in, Fit};
 ghost use Rattle.wac_types_fit.specs.Checking.{value_in, HoldsValues, value_tree, place_trees};
 ghost use Rattle.wac_graph_scopes.specs.declared.fault.WriteError.{WriteError};
-ghost use Rattle.wac_graph_scopes.specs.Known.{type_tree, HasId, IsIndexOf, DiffersAt, KeepsKnown};
+ghost use Rattle.wac_graph_scopes.specs.Known.{type_tree, HasId, DiffersAt, KeepsKnown};
 ghost use Rattle.wac_graph_scopes.specs.Refusals.{FindsNeeded, FindsAll, Refused, RefusedParts, RefusedApart, RefusedPlace, RefusedThere, RefusedThereApart};
-ghost use Rattle.wac_graph_scopes.specs.Scopes.{KeepsScope, FindsType, FindsTree, FindsValue, WritesValue, WritesOwn, WritesDefined, WritesType, WritesPlaces, WritesPlace, WritesEntry, WritesIndex, MakesEntry, RemembersOne, RemembersValue, NotesValue, NotesOwn};
+ghost use Rattle.wac_graph_scopes.specs.Scopes.{KeepsScope, FindsOwn, FindsType, FindsTree, FindsValue, WritesValue, WritesOwn, WritesDefined, WritesType, WritesPlaces, WritesPlace, WritesEntry, WritesIndex, MakesEntry, RemembersOne, RemembersValue, NotesValue, NotesOwn};
 
 use crate::entry::{entry_of, func_entry_of};
 use crate::fault::WriteError;
@@ -86,7 +85,7 @@ fn push_borrow(scope: &mut TypeScope, types: &Types, id: ResourceId) -> Result<W
 fn known_value(scope: &TypeScope, types: &Types, ty: ValueType) -> Option<u64>
     requires { Stands types.now (ItemKind.Value ty) }
     ensures reads { FindsValue types.now scope.now ty result }
-    ensures own { (d : DefinedTypeId) (k : ℕ) → ty ≡ ValueType.Defined d → IsIndexOf scope.now.known d k → result ≡ Some k }
+    ensures own { FindsOwn scope.now ty result }
 {
     types.see_acyclic();
     let ValueType::Defined(own) = ty else {
