@@ -16,8 +16,7 @@ use Rattle.wac_workspace.specs.declared.entries.Entry.{Entry}
 use Rattle.wac_workspace.specs.declared.output.Output.{Output}
 use Rattle.wac_workspace.specs.Packages.{Held}
 use Rattle.wac_workspace.specs.Getting.{Gets}
-use Rattle.wac_workspace.specs.Resolving.{handed}
-use Rattle.wac_workspace.specs.Composing.{ComposesSource, ImportsSource, IsDocument, MeansSource, output_key}
+use Rattle.wac_workspace.specs.Composing.{ComposesSource, IsDocument, output_key}
 use Rattle.wac_workspace.specs.Reading.{ToEnd}
 use Rattle.wac_manifest.specs.declared.manifest.ComposeManifest.{ComposeManifest}
 use Rattle.wac_manifest.specs.declared.manifest.PlugManifest.{PlugManifest}
@@ -38,10 +37,8 @@ abbrev pub options_of : (define : Bool) → EncodeOptions
 options_of define = record { define_components = define; validate = true; processor = None }
 
 -- what comes of a text over the packages that stand in a workspace: an output, and a workspace with it
-pub record Composes (define : Bool) (source : List ℕ) (old new : Held) (o : Output) : Type 0 where
-  pub composed : ComposesSource old new source define o
-  pub means : MeansSource (options_of define) (handed old.packages) source o.bytes.items
-  pub imports : ImportsSource (options_of define) (handed old.packages) source o.bytes.items
+abbrev pub Composes : (define : Bool) → (source : List ℕ) → (old new : Held) → (o : Output) → Type 0
+Composes define source old new o = ComposesSource old new source define o
 
 -- what is known of the files, and of what was printed
 pub record Outside : Type 0 where

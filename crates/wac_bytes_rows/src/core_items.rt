@@ -2,122 +2,139 @@
 //! `table REFERENCE LIMITS`, `memory LIMITS SHARED`, `global V MUTABLE` or `tag N`, LIMITS are `MINIMUM MAXIMUM wide` (no
 //! maximum is `_`, and `narrow` stands for addresses of 32 bits), and SHARED and MUTABLE are `yes` or `no`.
 
-use crate::words::{number_of, owned};
-use anyhow::{Context, Result, bail};
-use std::alloc::Global;
 use wac_graph_bytes::{CoreDeclaration, CoreDescription, CoreReference, CoreValue, Limits};
-use wac_row_graphs::{word_at, words_of};
+use wac_rows::Words;
 
-fn reference_of(word: &str) -> Result<CoreReference> {
+fn reference_of(words: &mut Words<'_>, word: &str) -> CoreReference {
     match word {
-        "funcref" => Ok(CoreReference::Func),
-        "externref" => Ok(CoreReference::Extern),
-        _ => bail!("no such reference"),
+        "funcref" => CoreReference::Func,
+        "externref" => CoreReference::Extern,
+        _ => {
+            words.refuse("no such reference");
+            CoreReference::Func
+        }
     }
 }
 
 /// The core value type of a word.
-pub(crate) fn core_value_of(word: &str) -> Result<CoreValue> {
+pub(crate) fn core_value_of(words: &mut Words<'_>, word: &str) -> CoreValue {
     match word {
-        "i32" => Ok(CoreValue::I32),
-        "i64" => Ok(CoreValue::I64),
-        "f32" => Ok(CoreValue::F32),
-        "f64" => Ok(CoreValue::F64),
-        "v128" => Ok(CoreValue::V128),
-        _ => Ok(CoreValue::Reference(reference_of(word)?)),
+        "i32" => CoreValue::I32,
+        "i64" => CoreValue::I64,
+        "f32" => CoreValue::F32,
+        "f64" => CoreValue::F64,
+        "v128" => CoreValue::V128,
+        _ => CoreValue::Reference(reference_of(words, word)),
+    }
+}
+
+/// The most that a word says, if it says a number.
+fn take_maximum(words: &mut Words<'_>) -> Option<u64> {
+    match words.take() {
+        "_" => None,
+        word => Some(words.number_of(word)),
     }
 }
 
 /// The limits of three words.
-fn limits_of(minimum: &str, maximum: &str, width: &str) -> Result<Limits> {
-    let maximum = match maximum {
-        "_" => None,
-        word => Some(word.parse::<u64>()?),
-    };
-    Ok(Limits {
-        minimum: minimum.parse::<u64>()?,
+fn take_limits(words: &mut Words<'_>) -> Limits {
+    let minimum = words.take_number();
+    let maximum = take_maximum(words);
+    Limits {
+        minimum,
         maximum,
-        wide: width == "wide",
-    })
+        wide: words.take() == "wide",
+    }
 }
 
-/// The core item of a text.
-pub(crate) fn core_of(alloc: Global, text: &str) -> Result<CoreDescription> {
-    let words = words_of(alloc, text)?;
-    let (first, second) = (word_at(&words, 1), word_at(&words, 2));
-    let (third, fourth) = (word_at(&words, 3), word_at(&words, 4));
-    match word_at(&words, 0) {
-        "func" => Ok(CoreDescription::Func(number_of(first)?)),
-        "table" => {
-            let limits = limits_of(second, third, fourth)?;
-            Ok(CoreDescription::Table(reference_of(first)?, limits))
-        }
+/// A table behind its word.
+fn take_table(words: &mut Words<'_>) -> CoreDescription {
+    let word = words.take();
+    let reference = reference_of(words, word);
+    CoreDescription::Table(reference, take_limits(words))
+}
+
+/// A global behind its word.
+fn take_global(words: &mut Words<'_>) -> CoreDescription {
+    let word = words.take();
+    let value = core_value_of(words, word);
+    CoreDescription::Global(value, words.take() == "yes")
+}
+
+/// The core item of a line.
+pub(crate) fn take_core(words: &mut Words<'_>) -> CoreDescription {
+    match words.take() {
+        "func" => CoreDescription::Func(words.take_number()),
+        "table" => take_table(words),
         "memory" => {
-            let limits = limits_of(first, second, third)?;
-            Ok(CoreDescription::Memory(limits, fourth == "yes"))
+            let limits = take_limits(words);
+            CoreDescription::Memory(limits, words.take() == "yes")
         }
-        "global" => Ok(CoreDescription::Global(core_value_of(first)?, second == "yes")),
-        "tag" => Ok(CoreDescription::Tag(number_of(first)?)),
-        _ => bail!("no such core item"),
+        "global" => take_global(words),
+        "tag" => CoreDescription::Tag(words.take_number()),
+        _ => {
+            words.refuse("no such core item");
+            CoreDescription::Func(0)
+        }
     }
 }
 
 /// The core value types of a text's words.
-fn core_values_of(alloc: Global, text: &str) -> Result<Vec<CoreValue>> {
-    let mut values = Vec::new(alloc);
+fn core_values_of(words: &mut Words<'_>, text: &str) -> Vec<CoreValue> {
+    let mut values = Vec::new(words.alloc());
     for word in text.split(' ') {
         if !word.is_empty() {
-            values.push(core_value_of(word)?)?;
+            let value = core_value_of(words, word);
+            words.keep(&mut values, value);
         }
     }
-    Ok(values)
+    values
 }
 
 /// A signature.
-fn signature_of(alloc: Global, text: &str) -> Result<CoreDeclaration> {
-    let (params, results) = text.split_once("->").unwrap_or((text, ""));
-    let params = core_values_of(alloc, params)?;
-    let results = core_values_of(alloc, results)?;
-    Ok(CoreDeclaration::Signature(params, results))
+fn take_signature(words: &mut Words<'_>) -> CoreDeclaration {
+    let (params, results) = words.rest().split_once("->").unwrap_or((words.rest(), ""));
+    let params = core_values_of(words, params);
+    CoreDeclaration::Signature(params, core_values_of(words, results))
 }
 
 /// What a module asks for.
-fn import_of(alloc: Global, text: &str) -> Result<CoreDeclaration> {
-    let (module, rest) = text.split_once(' ').context("an import has a module")?;
-    let (name, core) = rest.split_once(' ').context("an import has a name")?;
-    let core = core_of(alloc, core)?;
-    let module = owned(alloc, module)?;
-    let name = owned(alloc, name)?;
-    Ok(CoreDeclaration::Import(module, name, core))
+fn take_import(words: &mut Words<'_>) -> CoreDeclaration {
+    let module = words.take_text();
+    let name = words.take_text();
+    CoreDeclaration::Import(module, name, take_core(words))
 }
 
 /// What a module gives.
-fn export_of(alloc: Global, text: &str) -> Result<CoreDeclaration> {
-    let (name, core) = text.split_once(' ').context("an export has a name")?;
-    let core = core_of(alloc, core)?;
-    let name = owned(alloc, name)?;
-    Ok(CoreDeclaration::Export(name, core))
+fn take_export(words: &mut Words<'_>) -> CoreDeclaration {
+    let name = words.take_text();
+    CoreDeclaration::Export(name, take_core(words))
 }
 
 /// The declaration of a text.
-fn core_declaration_of(alloc: Global, text: &str) -> Result<CoreDeclaration> {
-    let (word, rest) = text.split_once(' ').unwrap_or((text, ""));
-    match word {
-        "signature" => signature_of(alloc, rest),
-        "import" => import_of(alloc, rest),
-        "export" => export_of(alloc, rest),
-        _ => bail!("no such declaration of a module"),
+fn take_core_declaration(words: &mut Words<'_>) -> CoreDeclaration {
+    match words.take() {
+        "signature" => take_signature(words),
+        "import" => take_import(words),
+        word => {
+            if word != "export" {
+                words.refuse("no such declaration of a module");
+            }
+            take_export(words)
+        }
     }
 }
 
 /// The declarations of a text, with ` ; ` between them.
-pub(crate) fn core_declarations_of(alloc: Global, text: &str) -> Result<Vec<CoreDeclaration>> {
-    let mut declarations = Vec::new(alloc);
-    for part in text.split(" ; ") {
+pub(crate) fn take_core_declarations(words: &mut Words<'_>) -> Vec<CoreDeclaration> {
+    let mut declarations = Vec::new(words.alloc());
+    for part in words.rest().split(" ; ") {
         if !part.is_empty() {
-            let declaration = core_declaration_of(alloc, part)?;
-            declarations.push(declaration)?;
+            let mut inside = words.inside(part);
+            let declaration = take_core_declaration(&mut inside);
+            words.join(inside);
+            words.keep(&mut declarations, declaration);
         }
     }
-    Ok(declarations)
+    declarations
 }

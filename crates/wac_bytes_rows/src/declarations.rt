@@ -2,86 +2,86 @@
 //! `import NAME D`, `export NAME D`, `module` (of no declarations), and `component_type ..` and `instance_type ..` with
 //! declarations of their own, between which ` , ` stands.
 
-use crate::types::defined_of;
-use crate::words::{description_of, number_of, owned, sort_of};
-use anyhow::{Context, Result, bail};
-use std::alloc::Global;
+use crate::types::take_defined;
+use crate::values::{take_description, take_sort};
 use wac_graph_bytes::{Alias, Declaration};
-use wac_row_graphs::{word_at, words_of};
+use wac_rows::Words;
 
 /// An alias of an instance's export.
-pub(crate) fn alias_of(alloc: Global, text: &str) -> Result<Alias> {
-    let words = words_of(alloc, text)?;
-    let sort = sort_of(word_at(&words, 0))?;
-    let instance = number_of(word_at(&words, 1))?;
-    let name = owned(alloc, word_at(&words, 2))?;
-    Ok(Alias::Export(sort, instance, name))
+pub(crate) fn take_alias(words: &mut Words<'_>) -> Alias {
+    let sort = take_sort(words);
+    let instance = words.take_number();
+    Alias::Export(sort, instance, words.take_text())
 }
 
 /// An alias of an index further out.
-pub(crate) fn outer_of(alloc: Global, text: &str) -> Result<Alias> {
-    let words = words_of(alloc, text)?;
-    let sort = sort_of(word_at(&words, 0))?;
-    let scopes = number_of(word_at(&words, 1))?;
-    Ok(Alias::Outer(sort, scopes, number_of(word_at(&words, 2))?))
+pub(crate) fn take_outer(words: &mut Words<'_>) -> Alias {
+    let sort = take_sort(words);
+    let scopes = words.take_number();
+    Alias::Outer(sort, scopes, words.take_number())
 }
 
-fn import_of(alloc: Global, text: &str) -> Result<Declaration> {
-    let (name, word) = text.split_once(' ').context("an import is something")?;
-    let description = description_of(word)?;
-    Ok(Declaration::Import(owned(alloc, name)?, description))
+fn take_import(words: &mut Words<'_>) -> Declaration {
+    let name = words.take_text();
+    Declaration::Import(name, take_description(words))
 }
 
-fn export_of(alloc: Global, text: &str) -> Result<Declaration> {
-    let (name, word) = text.split_once(' ').context("an export is something")?;
-    let description = description_of(word)?;
-    Ok(Declaration::Export(owned(alloc, name)?, description))
+fn take_export(words: &mut Words<'_>) -> Declaration {
+    let name = words.take_text();
+    Declaration::Export(name, take_description(words))
 }
 
-/// The declaration of a text that has no declarations of its own.
-fn flat_of(alloc: Global, text: &str) -> Result<Declaration> {
-    let (word, rest) = text.split_once(' ').unwrap_or((text, ""));
+/// The declaration of a first word that has no declarations of its own.
+fn take_flat(words: &mut Words<'_>, word: &str) -> Declaration {
     match word {
-        "type" => Ok(Declaration::Defined(defined_of(alloc, rest)?)),
-        "alias" => Ok(Declaration::Alias(alias_of(alloc, rest)?)),
-        "outer" => Ok(Declaration::Alias(outer_of(alloc, rest)?)),
-        "import" => import_of(alloc, rest),
-        "export" => export_of(alloc, rest),
-        "module" => Ok(Declaration::Module(Vec::new(alloc))),
-        _ => bail!("no such declaration"),
-    }
-}
-
-/// The declarations of a text that have none of their own.
-fn inner_of(alloc: Global, text: &str) -> Result<Vec<Declaration>> {
-    let mut declarations = Vec::new(alloc);
-    for part in text.split(" , ") {
-        if !part.is_empty() {
-            let declaration = flat_of(alloc, part)?;
-            declarations.push(declaration)?;
+        "type" => Declaration::Defined(take_defined(words)),
+        "alias" => Declaration::Alias(take_alias(words)),
+        "outer" => Declaration::Alias(take_outer(words)),
+        "import" => take_import(words),
+        "export" => take_export(words),
+        _ => {
+            if word != "module" {
+                words.refuse("no such declaration");
+            }
+            Declaration::Module(Vec::new(words.alloc()))
         }
     }
-    Ok(declarations)
+}
+
+/// The declarations that are left and have none of their own, with ` , ` between them.
+fn take_inner(words: &mut Words<'_>) -> Vec<Declaration> {
+    let mut declarations = Vec::new(words.alloc());
+    for part in words.rest().split(" , ") {
+        if !part.is_empty() {
+            let mut inside = words.inside(part);
+            let word = inside.take();
+            let declaration = take_flat(&mut inside, word);
+            words.join(inside);
+            words.keep(&mut declarations, declaration);
+        }
+    }
+    declarations
 }
 
 /// The declaration of a text.
-fn declaration_of(alloc: Global, text: &str) -> Result<Declaration> {
-    let (word, rest) = text.split_once(' ').unwrap_or((text, ""));
-    match word {
-        "component_type" => Ok(Declaration::ComponentType(inner_of(alloc, rest)?)),
-        "instance_type" => Ok(Declaration::InstanceType(inner_of(alloc, rest)?)),
-        _ => flat_of(alloc, text),
+fn take_declaration(words: &mut Words<'_>) -> Declaration {
+    match words.take() {
+        "component_type" => Declaration::ComponentType(take_inner(words)),
+        "instance_type" => Declaration::InstanceType(take_inner(words)),
+        word => take_flat(words, word),
     }
 }
 
-/// The declarations of a text, with ` ; ` between them.
-pub(crate) fn declarations_of(alloc: Global, text: &str) -> Result<Vec<Declaration>> {
-    let mut declarations = Vec::new(alloc);
-    for part in text.split(" ; ") {
+/// The declarations that are left, with ` ; ` between them.
+pub(crate) fn take_declarations(words: &mut Words<'_>) -> Vec<Declaration> {
+    let mut declarations = Vec::new(words.alloc());
+    for part in words.rest().split(" ; ") {
         if !part.is_empty() {
-            let declaration = declaration_of(alloc, part)?;
-            declarations.push(declaration)?;
+            let mut inside = words.inside(part);
+            let declaration = take_declaration(&mut inside);
+            words.join(inside);
+            words.keep(&mut declarations, declaration);
         }
     }
-    Ok(declarations)
+    declarations
 }

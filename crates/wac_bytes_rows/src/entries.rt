@@ -2,125 +2,144 @@
 //! out), `instantiate N NAME=SORT.INDEX ..`, `nested BYTE ..`, `module ..`, `component_type ..` and `instance_type ..` with
 //! declarations, between which ` ; ` stands.
 
-use crate::core_items::core_declarations_of;
-use crate::declarations::{alias_of, declarations_of, outer_of};
-use crate::types::defined_of;
-use crate::words::{description_of, index_of, number_of, owned, sort_of};
-use anyhow::{Context, Result, bail};
-use std::alloc::Global;
-use wac_graph_bytes::{Entry, Export, IndexName, NamedIndex, Processor, SortNames};
-use wac_row_graphs::{word_at, words_of};
+use crate::core_items::take_core_declarations;
+use crate::declarations::{take_alias, take_declarations, take_outer};
+use crate::types::take_defined;
+use crate::values::{description_of, index_of, take_description, take_sort};
+use wac_graph_bytes::{Description, Entry, Export, IndexName, NamedIndex, Processor, SortNames};
+use wac_rows::Words;
 
-fn import_of(alloc: Global, text: &str) -> Result<Entry> {
-    let (name, word) = text.split_once(' ').context("an import is something")?;
-    let description = description_of(word)?;
-    Ok(Entry::Import(owned(alloc, name)?, description))
+fn take_import(words: &mut Words<'_>) -> Entry {
+    let name = words.take_text();
+    Entry::Import(name, take_description(words))
 }
 
-/// The export of a text.
-pub(crate) fn export_of(alloc: Global, text: &str) -> Result<Export> {
-    let words = words_of(alloc, text)?;
-    let (sort, index) = index_of(word_at(&words, 1))?;
-    let stated = match word_at(&words, 2) {
+/// What an export is said to be, if that is left.
+fn take_stated(words: &mut Words<'_>) -> Option<Description> {
+    match words.take() {
         "" => None,
-        word => Some(description_of(word)?),
-    };
-    Ok(Export {
-        name: owned(alloc, word_at(&words, 0))?,
+        word => Some(description_of(words, word)),
+    }
+}
+
+/// The export of a line.
+pub(crate) fn take_export(words: &mut Words<'_>) -> Export {
+    let name = words.take_text();
+    let word = words.take();
+    let (sort, index) = index_of(words, word);
+    Export {
+        name,
         sort,
         index,
-        stated,
-    })
+        stated: take_stated(words),
+    }
 }
 
 /// The arguments of words `NAME=SORT.INDEX`.
-fn arguments_of(alloc: Global, text: &str) -> Result<Vec<NamedIndex>> {
-    let mut arguments = Vec::new(alloc);
-    for word in text.split(' ') {
+fn take_arguments(words: &mut Words<'_>) -> Vec<NamedIndex> {
+    let mut arguments = Vec::new(words.alloc());
+    for word in words.rest().split(' ') {
         if let Some((name, at)) = word.split_once('=') {
-            let (sort, index) = index_of(at)?;
-            let name = owned(alloc, name)?;
-            arguments.push(NamedIndex { name, sort, index })?;
+            let (sort, index) = index_of(words, at);
+            let name = words.own(name);
+            words.keep(&mut arguments, NamedIndex { name, sort, index });
         }
     }
-    Ok(arguments)
+    arguments
 }
 
-fn instantiate_of(alloc: Global, text: &str) -> Result<Entry> {
-    let (component, rest) = text.split_once(' ').unwrap_or((text, ""));
-    let component = number_of(component)?;
-    Ok(Entry::Instantiate(component, arguments_of(alloc, rest)?))
+fn take_instantiate(words: &mut Words<'_>) -> Entry {
+    let component = words.take_number();
+    Entry::Instantiate(component, take_arguments(words))
 }
 
-fn bytes_of(alloc: Global, text: &str) -> Result<Vec<u8>> {
-    let mut bytes = Vec::new(alloc);
-    for word in text.split(' ') {
-        bytes.push(word.parse::<u8>()?)?;
+/// The byte of a word.
+fn byte_of(words: &mut Words<'_>, word: &str) -> u8 {
+    match word.parse::<u8>() {
+        Ok(byte) => byte,
+        Err(_) => {
+            words.refuse("no byte");
+            0
+        }
     }
-    Ok(bytes)
 }
 
-/// The entry of a text.
-pub(crate) fn entry_of(alloc: Global, text: &str) -> Result<Entry> {
-    let (word, rest) = text.split_once(' ').unwrap_or((text, ""));
-    match word {
-        "type" => Ok(Entry::Defined(defined_of(alloc, rest)?)),
-        "alias" => Ok(Entry::Alias(alias_of(alloc, rest)?)),
-        "outer" => Ok(Entry::Alias(outer_of(alloc, rest)?)),
-        "import" => import_of(alloc, rest),
-        "export" => Ok(Entry::Export(export_of(alloc, rest)?)),
-        "instantiate" => instantiate_of(alloc, rest),
-        "nested" => Ok(Entry::Nested(bytes_of(alloc, rest)?)),
-        "module" => Ok(Entry::Module(core_declarations_of(alloc, rest)?)),
-        "component_type" => Ok(Entry::ComponentType(declarations_of(alloc, rest)?)),
-        "instance_type" => Ok(Entry::InstanceType(declarations_of(alloc, rest)?)),
-        _ => bail!("no such entry"),
+fn take_bytes(words: &mut Words<'_>) -> Vec<u8> {
+    let mut bytes = Vec::new(words.alloc());
+    for word in words.rest().split(' ') {
+        let byte = byte_of(words, word);
+        words.keep(&mut bytes, byte);
+    }
+    bytes
+}
+
+/// The entry of a line.
+pub(crate) fn take_entry(words: &mut Words<'_>) -> Entry {
+    match words.take() {
+        "type" => Entry::Defined(take_defined(words)),
+        "alias" => Entry::Alias(take_alias(words)),
+        "outer" => Entry::Alias(take_outer(words)),
+        "import" => take_import(words),
+        "export" => Entry::Export(take_export(words)),
+        "instantiate" => take_instantiate(words),
+        "nested" => Entry::Nested(take_bytes(words)),
+        "module" => Entry::Module(take_core_declarations(words)),
+        "component_type" => Entry::ComponentType(take_declarations(words)),
+        word => {
+            if word != "instance_type" {
+                words.refuse("no such entry");
+            }
+            Entry::InstanceType(take_declarations(words))
+        }
     }
 }
 
 /// The entries of a text's lines.
-pub(crate) fn entries_of(alloc: Global, text: &str) -> Result<Vec<Entry>> {
-    let mut entries = Vec::new(alloc);
-    for line in text.split('\n') {
+pub(crate) fn take_entries(words: &mut Words<'_>) -> Vec<Entry> {
+    let mut entries = Vec::new(words.alloc());
+    for line in words.rest().split('\n') {
         if !line.is_empty() {
-            let entry = entry_of(alloc, line)?;
-            entries.push(entry)?;
+            let mut inside = words.inside(line);
+            let entry = take_entry(&mut inside);
+            words.join(inside);
+            words.keep(&mut entries, entry);
         }
     }
-    Ok(entries)
+    entries
 }
 
 /// What wrote a component: `NAME VERSION`.
-pub(crate) fn processor_of(alloc: Global, text: &str) -> Result<Processor> {
-    let (name, version) = text.split_once(' ').context("a processor has a version")?;
-    Ok(Processor {
-        name: owned(alloc, name)?,
-        version: owned(alloc, version)?,
-    })
+pub(crate) fn take_processor(words: &mut Words<'_>) -> Processor {
+    let name = words.take_text();
+    Processor {
+        name,
+        version: words.take_text(),
+    }
 }
 
 /// The names for debuggers of a line `SORT INDEX=NAME ..`.
-fn sort_names_of(alloc: Global, line: &str) -> Result<SortNames> {
-    let (sort, rest) = line.split_once(' ').context("a sort has names")?;
-    let sort = sort_of(sort)?;
-    let mut names = Vec::new(alloc);
-    for word in rest.split(' ') {
-        let (index, name) = word.split_once('=').context("an index has a name")?;
-        let index = number_of(index)?;
-        let name = owned(alloc, name)?;
-        names.push(IndexName { index, name })?;
+fn take_sort_names(words: &mut Words<'_>) -> SortNames {
+    let sort = take_sort(words);
+    let mut names = Vec::new(words.alloc());
+    for word in words.rest().split(' ') {
+        let (index, name) = word.split_once('=').unwrap_or(("", word));
+        let index = words.number_of(index);
+        let name = words.own(name);
+        words.keep(&mut names, IndexName { index, name });
     }
-    Ok(SortNames { sort, names })
+    SortNames { sort, names }
 }
 
 /// The names for debuggers of a text's lines.
-pub(crate) fn debug_names_of(alloc: Global, text: &str) -> Result<Vec<SortNames>> {
-    let mut all = Vec::new(alloc);
-    for line in text.split('\n') {
+pub(crate) fn take_debug_names(words: &mut Words<'_>) -> Vec<SortNames> {
+    let mut all = Vec::new(words.alloc());
+    for line in words.rest().split('\n') {
         if !line.is_empty() {
-            let names = sort_names_of(alloc, line)?;
-            all.push(names)?;
+            let mut inside = words.inside(line);
+            let names = take_sort_names(&mut inside);
+            words.join(inside);
+            words.keep(&mut all, names);
         }
     }
-    Ok(all)
+    all
 }

@@ -1,7 +1,7 @@
 //! The kinds of names.
 
-use std::alloc::{AllocError, Global};
 use wac_graph_bytes::{NameKind, component_name};
+use wac_rows::Told;
 
 fn kind_word(kind: Option<NameKind>) -> &'static str {
     match kind {
@@ -14,12 +14,16 @@ fn kind_word(kind: Option<NameKind>) -> &'static str {
     }
 }
 
-/// The kind of each line of a text.
-pub(crate) fn kinds_of(alloc: Global, text: &str) -> Result<String, AllocError> {
-    let mut told = String::new(alloc);
+/// Tells the kind of each line of a text.
+pub(crate) fn tell_kinds(told: &mut Told, text: &str) {
     for line in text.split('\n') {
-        let kind = component_name(alloc, line)?;
-        writeln!(told, "{line}: {}", kind_word(kind))?;
+        let kind = match component_name(told.alloc(), line) {
+            Ok(kind) => kind_word(kind),
+            Err(_) => "out of memory",
+        };
+        told.push(line);
+        told.push(": ");
+        told.push(kind);
+        told.push("\n");
     }
-    Ok(told)
 }

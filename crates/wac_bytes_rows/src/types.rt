@@ -2,93 +2,105 @@
 //! `record F=V ..`, `variant C=V ..`, `tuple V ..`, `flags NAME ..`, `enum NAME ..`, `func P=V .. -> V`, `async P=V .. -> V`, or
 //! a primitive type. `_` stands for no type.
 
-use crate::words::{length_of, number_of, option_of, owned, primitive_of, value_of};
-use anyhow::Result;
-use std::alloc::{AllocError, Global};
+use crate::values::{option_of, primitive_of, take_option, take_value, value_of};
 use wac_graph_bytes::{Case, DefinedType, Param, ValueType};
-use wac_row_graphs::{word_at, words_of};
+use wac_rows::Words;
 
-/// The parameters or fields among words.
-fn params_in(alloc: Global, words: &[&str]) -> Result<Vec<Param>> {
-    let mut params = Vec::new(alloc);
-    for word in words {
+/// The parameters or fields, up to another word.
+fn take_params(words: &mut Words<'_>) -> Vec<Param> {
+    let mut params = Vec::new(words.alloc());
+    for word in words.rest().split(' ') {
         if let Some((name, ty)) = word.split_once('=') {
-            let ty = value_of(ty)?;
-            let name = owned(alloc, name)?;
-            params.push(Param { name, ty })?;
+            let ty = value_of(words, ty);
+            let name = words.own(name);
+            words.keep(&mut params, Param { name, ty });
         }
     }
-    Ok(params)
+    params
 }
 
-/// The cases among words.
-fn cases_in(alloc: Global, words: &[&str]) -> Result<Vec<Case>> {
-    let mut cases = Vec::new(alloc);
-    for word in words {
+/// The cases that are left.
+fn take_cases(words: &mut Words<'_>) -> Vec<Case> {
+    let mut cases = Vec::new(words.alloc());
+    for word in words.rest().split(' ') {
         if let Some((name, ty)) = word.split_once('=') {
-            let ty = option_of(ty)?;
-            let name = owned(alloc, name)?;
-            cases.push(Case { name, ty })?;
+            let ty = option_of(words, ty);
+            let name = words.own(name);
+            words.keep(&mut cases, Case { name, ty });
         }
     }
-    Ok(cases)
+    cases
 }
 
-/// The types behind the first word.
-fn values_in(alloc: Global, words: &[&str]) -> Result<Vec<ValueType>> {
-    let mut values = Vec::new(alloc);
-    for word in words.iter().skip(1) {
-        values.push(value_of(word)?)?;
+/// The types that are left.
+fn take_values(words: &mut Words<'_>) -> Vec<ValueType> {
+    let mut values = Vec::new(words.alloc());
+    for word in words.rest().split(' ') {
+        let value = value_of(words, word);
+        words.keep(&mut values, value);
     }
-    Ok(values)
+    values
 }
 
-/// The names behind the first word.
-fn names_in(alloc: Global, words: &[&str]) -> Result<Vec<String>, AllocError> {
-    let mut names = Vec::new(alloc);
-    for word in words.iter().skip(1) {
-        names.push(owned(alloc, word)?)?;
+/// The names that are left.
+fn take_names(words: &mut Words<'_>) -> Vec<String> {
+    let mut names = Vec::new(words.alloc());
+    for word in words.rest().split(' ') {
+        let name = words.own(word);
+        words.keep(&mut names, name);
     }
-    Ok(names)
+    names
 }
 
 /// A function type, whose answer is the last word.
-fn func_of(alloc: Global, words: &[&str], is_async: bool) -> Result<DefinedType> {
-    let params = params_in(alloc, words)?;
-    let last = match words.last() {
-        Some(word) => *word,
-        None => "_",
-    };
-    Ok(DefinedType::Func(is_async, params, option_of(last)?))
+fn take_func(words: &mut Words<'_>, is_async: bool) -> DefinedType {
+    let params = take_params(words);
+    let (_, last) = words.rest().split_once("-> ").unwrap_or(("", "_"));
+    DefinedType::Func(is_async, params, option_of(words, last))
+}
+
+/// The length of a list that always has it.
+fn take_length(words: &mut Words<'_>) -> u32 {
+    match u32::try_from(words.take_number()) {
+        Ok(length) => length,
+        Err(_) => {
+            words.refuse("no such length");
+            0
+        }
+    }
 }
 
 /// A type of at most two words behind its first, or a primitive one.
-fn small_of(words: &[&str]) -> Result<DefinedType> {
-    let (first, second) = (word_at(words, 1), word_at(words, 2));
-    Ok(match word_at(words, 0) {
-        "list" => DefinedType::List(value_of(first)?),
-        "option" => DefinedType::Option(value_of(first)?),
-        "fixed" => DefinedType::FixedSizeList(value_of(first)?, length_of(second)?),
-        "result" => DefinedType::Result(option_of(first)?, option_of(second)?),
-        "own" => DefinedType::Own(number_of(first)?),
-        "borrow" => DefinedType::Borrow(number_of(first)?),
-        "stream" => DefinedType::Stream(option_of(first)?),
-        "future" => DefinedType::Future(option_of(first)?),
-        word => DefinedType::Primitive(primitive_of(word)?),
-    })
+fn take_small(words: &mut Words<'_>, word: &str) -> DefinedType {
+    match word {
+        "list" => DefinedType::List(take_value(words)),
+        "option" => DefinedType::Option(take_value(words)),
+        "fixed" => {
+            let value = take_value(words);
+            DefinedType::FixedSizeList(value, take_length(words))
+        }
+        "result" => {
+            let first = take_option(words);
+            DefinedType::Result(first, take_option(words))
+        }
+        "own" => DefinedType::Own(words.take_number()),
+        "borrow" => DefinedType::Borrow(words.take_number()),
+        "stream" => DefinedType::Stream(take_option(words)),
+        "future" => DefinedType::Future(take_option(words)),
+        _ => DefinedType::Primitive(primitive_of(words, word)),
+    }
 }
 
-/// The type of a text.
-pub(crate) fn defined_of(alloc: Global, text: &str) -> Result<DefinedType> {
-    let words = words_of(alloc, text)?;
-    match word_at(&words, 0) {
-        "record" => Ok(DefinedType::Record(params_in(alloc, &words)?)),
-        "variant" => Ok(DefinedType::Variant(cases_in(alloc, &words)?)),
-        "tuple" => Ok(DefinedType::Tuple(values_in(alloc, &words)?)),
-        "flags" => Ok(DefinedType::Flags(names_in(alloc, &words)?)),
-        "enum" => Ok(DefinedType::Enum(names_in(alloc, &words)?)),
-        "func" => func_of(alloc, &words, false),
-        "async" => func_of(alloc, &words, true),
-        _ => small_of(&words),
+/// The type of a line.
+pub(crate) fn take_defined(words: &mut Words<'_>) -> DefinedType {
+    match words.take() {
+        "record" => DefinedType::Record(take_params(words)),
+        "variant" => DefinedType::Variant(take_cases(words)),
+        "tuple" => DefinedType::Tuple(take_values(words)),
+        "flags" => DefinedType::Flags(take_names(words)),
+        "enum" => DefinedType::Enum(take_names(words)),
+        "func" => take_func(words, false),
+        "async" => take_func(words, true),
+        word => take_small(words, word),
     }
 }

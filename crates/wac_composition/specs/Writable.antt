@@ -12,6 +12,7 @@ use Rattle.wac_types_base.specs.Collection.{Shape, resource, resource_alias, fun
 use Rattle.wac_types_base.specs.Stated.{Stated, Kind, IsInstance, IsValue, IsValueType, IsResource, IsInterface, Parts, parts_at, Used, folded, kind_of, untyped, over, world_of, exports_of, identifier_of, root_name}
 use Rattle.wac_types_base.specs.Tree.{tree}
 use Rattle.wac_composition.specs.Tests.{same_tree}
+use Rattle.wac_composition.specs.Classes.{is_instance_kind}
 use Rattle.wac_composition.specs.Merging.{reached}
 use Rattle.wac_types_written.specs.Written.{is_type}
 
@@ -60,12 +61,22 @@ has_items IsInstance = true
 has_items IsInterface = true
 has_items k = false
 
--- what an import has there: only one that is an instance, or an interface as a type, has items
+-- what an import has there: only an instance has items that stand
 abbrev pub given_in : Stated → Used → Option Stated
-given_in x u = if has_items (kind_of x) then item_in x u else None
+given_in x u = if is_instance_kind (kind_of x) then item_in x u else None
+
+-- a resource or a value type; nothing else is taken by a use
+abbrev pub is_used_kind : Kind → Bool
+is_used_kind IsResource = true
+is_used_kind IsValueType = true
+is_used_kind k = false
+
+abbrev pub usable : Option Stated → Option Stated
+usable None = None
+usable (Some x) = if is_used_kind (kind_of x) then Some x else None
 
 abbrev pub taken : Used → Option (Name × Stated)
-taken u = option_map (λ x. (u.name, x)) (item_in u.interface u)
+taken u = option_map (λ x. (u.name, x)) (usable (item_in u.interface u))
 
 abbrev pub is_resource : Kind → Bool
 is_resource IsResource = true

@@ -56,6 +56,8 @@ impl Files for Disk<'_> {
     // other programs change the files of a system too
     ghost stored = { λ _. None };
 
+    ghost failures = { λ _. None };
+
     fn read(&self, alloc: Global, path: &str) -> Result<Vec<u8>, FilesError> {
         match read_whole(self.rt, alloc, path) {
             Ok(bytes) => Ok(bytes),

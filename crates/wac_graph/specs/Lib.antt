@@ -23,6 +23,7 @@ pub use Rattle.wac_graph_core.specs.Steps
 pub use Rattle.wac_graph_core.specs.Refusals
 pub use Rattle.wac_graph_core.specs.Types
 pub use Rattle.wac_graph_core.specs.Exporting
+pub use Rattle.wac_graph_core.specs.Named
 pub use Rattle.wac_graph_core.specs.Removing
 pub use Rattle.wac_graph_core.specs.Packages
 pub use Rattle.wac_graph_core.specs.GraphWiring

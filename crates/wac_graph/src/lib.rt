@@ -4,9 +4,9 @@
 pub use wac_graph_bytes as bytes;
 pub use wac_graph_core::{
     AliasError, ArgumentIter, CompositionGraph, DefineTypeError, ExportError, ImportError,
-    ImportIter, InstantiationArgumentError, NameError, Node, NodeId, NodeIdIter, NodeIter,
-    NodeKind, PackageId, PackageIter, RegisterPackageError, TypesMut, UnexportError, laws,
-    one_wiring_of_a_graph,
+    ImportIter, InstantiationArgumentError, NameError, NamedNodes, Node, NodeId, NodeIdIter,
+    NodeIter, NodeKind, PackageId, PackageIter, RegisterPackageError, TypesMut, UnexportError,
+    laws, one_wiring_of_a_graph,
 };
 pub use wac_graph_encode::{
     EncodeError, EncodeGraph, EncodeOptions, Encoded, Processor, ValidationFault,

@@ -294,16 +294,17 @@ fn is_definition(graph: &CompositionGraph, id: NodeId) -> bool
 
 /// Gives a node a name, if it has none.
 fn name_first(
+    alloc: Global,
     names: &mut IndexMap<NodeId, Text>,
     node: NodeId,
-    name: &Text,
+    name: &str,
 ) -> Result<(), AllocError>
     ensures { OnOk result (NamesFirst names.old.entries names.new.entries node name.now) }
 {
     if names.contains_key(&node) {
         return Ok(());
     }
-    let name = name.copy()?;
+    let name = Text::new(String::from_str(alloc, name)?);
     let _ = names.insert(node, name)?;
     Ok(())
 }
@@ -316,8 +317,10 @@ fn add_first_exports(
     requires { names.old.entries ≡ [] }
     ensures { OnOk result (AreFirstNames graph.now names.new.entries) }
 {
-    for (name, node) in graph.exports() {
-        name_first(names, *node, name)?;
+    let listed = graph.exports();
+    for at in 0..listed.len() {
+        let (name, node) = listed.entry(at);
+        name_first(graph.alloc(), names, node, name)?;
     }
     Ok(())
 }

@@ -243,8 +243,10 @@ fn push_export_names(
 ) -> Result<(), AllocError>
     ensures { OnOk result (names.new.items ≡ names.old.items ++ names_of graph.now.exports) }
 {
-    for (name, _) in graph.exports() {
-        push_copy(alloc, names, name.as_str())?;
+    let listed = graph.exports();
+    for at in 0..listed.len() {
+        let (name, _) = listed.entry(at);
+        push_copy(alloc, names, name)?;
     }
     Ok(())
 }

@@ -26,8 +26,10 @@ pub mod WiringLaws
 mod Covering
 mod Leading
 mod Naming
+mod NamedLists
 mod TypeSets
 mod Noting
 mod Importing
 pub mod Passed
 pub mod Copied
+mod Compared

@@ -1,10 +1,8 @@
 -- Names that are known to be there.
-use Rattle.std.proofs.Common.{◌≡◌, ◌==◌, ◌||◌, ℕ, Bool, true, false, List, [], ◌∷◌, ◌++◌, Option, Some, None, cond, refl, ap, ◌∙◌, inl, inr}
+use Rattle.std.proofs.Common.{◌≡◌, ◌==◌, ◌||◌, Bool, true, false, List, [], ◌∷◌, ◌++◌, cond, refl, ap, ◌∙◌}
 use Rattle.std.specs.Cmp.Lexicographic.{pointwise}
 use Rattle.std.proofs.Math.Bool.{or-true}
-use Rattle.wac_types_base.specs.Entries.{Name, has_name, put_name, value_at}
-use Rattle.wac_types_fit.proofs.Items.{value_at-among, Among-last}
-use Rattle.wac_graph_core.specs.Named.{HasNames}
+use Rattle.wac_types_base.specs.Entries.{Name, has_name}
 use Rattle.wac_graph_core.proofs.Found.{same_name}
 
 last_there : (ns : List Name) (m : Name) → has_name (ns ++ m ∷ []) m ≡ true
@@ -26,20 +24,3 @@ put_there false ns m is = last_there ns m
 pub put_kept : (b : Bool) (ns : List Name) (m n : Name) → has_name ns n ≡ true → has_name (cond b ns (ns ++ m ∷ [])) n ≡ true
 put_kept true ns m n h = h
 put_kept false ns m n h = still_there ns m n h
-
-pub named_one_more : (ns ms : List Name) (m : Name) (xs : List (Name × ℕ)) (k : ℕ) → ms ≡ put_name ns m → HasNames (Some ns) xs → HasNames (Some ms) (xs ++ (m, k) ∷ [])
-named_one_more ns ms m xs k is known n j at =
-    ap (λ l. has_name l n) is
-    ∙ elim (Among-last xs (m, k) (n, j) at) [
-      | inl old ↦ put_kept (has_name ns m) ns m n (known n j old)
-      | inr same ↦
-          let name : n ≡ m = ap (λ x. x.0) same in
-          ap (has_name (put_name ns m)) name ∙ put_there (has_name ns m) ns m refl
-    ]
-
-pub missing : (ns : List Name) (xs : List (Name × ℕ)) (n : Name) → HasNames (Some ns) xs → has_name ns n ≡ false → value_at xs n ≡ None
-missing ns xs n known away = by (value_at xs n) refl
-  where
-    by : (o : Option ℕ) → value_at xs n ≡ o → o ≡ None
-    by None is = refl
-    by (Some k) is = let there = known n k (value_at-among xs n k is) in absurd (cc (there, away))

@@ -1,6 +1,10 @@
 -- A graph over a collection under another number: each node, edge, export and package stands under the id that it had.
 use Rattle.std.specs.Prelude.{◌≡◌, ℕ, map, option_map}
 use Rattle.std.specs.FinMap as finite
+use Rattle.wac_types_base.specs.declared.item.ItemKind.{ItemKind}
+use Rattle.wac_types_base.specs.Record.{Collection}
+use Rattle.wac_types_base.specs.Collection.{Stands}
+use Rattle.wac_types_base.specs.Copying.{IsCopy}
 use Rattle.wac_types_base.specs.Renaming.{kind_under, renumbered}
 use Rattle.wac_types_names.specs.Packaged.{packaged_under}
 use Rattle.wac_graph_core.specs.declared.package.Place.{Place}
@@ -26,3 +30,7 @@ pub record IsGraphUnder (n : ℕ) (old new : Graph) : Type 0 where
   pub edges : new.edges ≡ old.edges
   pub exports : new.exports ≡ old.exports
   pub places : new.places ≡ map (place_under n) old.places
+
+-- each type that stands has its copy, with the same tree, under this number
+abbrev pub AreCopied : ℕ → Collection → Collection → Type 0
+AreCopied n old new = (k : ItemKind) → Stands old k → IsCopy old new k (kind_under n k)

@@ -1,6 +1,8 @@
--- What holds of each list of nodes under names.
+-- What contracts see of `NamedNodes`.
+use Rattle.indexmap.specs.IndexMap.{spare}
+use Rattle.wac_types_base.specs.Entries.{entries_of}
 use Rattle.wac_graph_core.specs.declared.named.NamedNodes.TheInside.{Inside}
-use Rattle.wac_graph_core.specs.Named.{HasNames}
+use Rattle.wac_graph_core.specs.Named.{Named}
 
-abbrev pub IsNoted : Inside → Type 0
-IsNoted t = HasNames t.names t.list.items
+abbrev pub named : Inside → Named
+named t = record { items = entries_of t.map.entries; spare = spare t.map }

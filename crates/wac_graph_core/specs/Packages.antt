@@ -4,8 +4,13 @@ use Rattle.std.specs.Option.{option_copied, option_map}
 use Rattle.std.specs.Borrow.{Bor}
 use Rattle.semver.specs.declared.Version.{Version}
 use Rattle.semver.specs.Identifiers.{parts_of}
+use Rattle.wac_types_base.specs.declared.item.ItemKind.{ItemKind}
+use Rattle.wac_types_base.specs.declared.defined.World.{World}
+use Rattle.wac_types_base.specs.Record.{Collection}
+use Rattle.wac_types_base.specs.Collection.{Stands}
 use Rattle.wac_types_base.specs.Entries.{Name}
 use Rattle.wac_types_names.specs.Packaged.{Packaged}
+use Rattle.wac_types_names.specs.Packages.{interface_of}
 use Rattle.wac_types_names.specs.Keys.{Key, package_key, owned_key}
 use Rattle.wac_graph_core.specs.declared.ids.PackageId.{PackageId}
 use Rattle.wac_graph_core.specs.declared.package.Place.{Place}
@@ -76,6 +81,14 @@ RegisterRefused g p (RegisterPackageError.PackageAlreadyRegistered key) =
     (owned_key key ≡ package_key p) × (id : PackageId) × (q : Packaged) × (package_of g id ≡ Some q)
     × (package_key q ≡ package_key p)
 RegisterRefused g p RegisterPackageError.Memory = Unit {0}
+
+-- its world and the interface of its instances stand, and that is the one that is made of the world
+pub record HasInstanceType (c : Collection) (p : Packaged) : Type 0 where
+  pub world : Stands c (ItemKind.Component p.ty)
+  pub instance : Stands c (ItemKind.Instance p.instance_type)
+  pub value : World
+  pub there : slice_get c.worlds p.ty.index ≡ Some value
+  pub made : slice_get c.interfaces p.instance_type.index ≡ Some (interface_of value)
 
 -- the place is empty, with a generation one higher
 abbrev pub left_place : ℕ → Place

@@ -2,7 +2,7 @@
 
 ghost use Rattle.std.specs.Prelude.{◌≡◌, IfOk, map, option_map};
 ghost use Rattle.wac_types_names.specs.Packaged.{packaged_under};
-ghost use Rattle.wac_graph_core.specs.Copying.{IsGraphUnder, place_under};
+ghost use Rattle.wac_graph_core.specs.Copying.{IsGraphUnder, AreCopied, place_under};
 
 use crate::graph::CompositionGraph;
 use crate::package::Place;
@@ -42,7 +42,8 @@ impl CompositionGraph {
     /// The same graph over a collection with this number: each node and each package has the id that it has here, and
     /// each type its index.
     pub fn copy_as(&self, number: u64) -> Result<CompositionGraph, AllocError>
-        ensures { IfOk result (λ copy. IsGraphUnder number self.now copy) }
+        ensures under { IfOk result (λ copy. IsGraphUnder number self.now copy) }
+        ensures copied { IfOk result (λ copy. AreCopied number self.now.types copy.types) }
     {
         self.types.see_acyclic();
         let types = self.types.copy_as(self.alloc, number)?;

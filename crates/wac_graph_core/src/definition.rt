@@ -138,11 +138,10 @@ impl CompositionGraph {
         reserve_both(&mut self.edges, sources.len(), targets.len())?;
         self.exports.reserve(1)?;
         let node = Node::defined(ty, told);
-        let text = Text::new(own);
         let id = self.nodes.insert(node)?;
         depend_on(&mut self.edges, sources.as_slice(), id);
         depended_by(&mut self.edges, id, targets.as_slice());
-        self.exports.push_reserved((text, id));
+        self.exports.push_reserved(own, id);
         self.defined_below = self.types.defined_types().len();
         Ok(id)
     }

@@ -1,42 +1,19 @@
 //! Exports and the names of nodes.
 
-ghost use Rattle.std.specs.Prelude.{◌≡◌, ◌==◌, ◌<◌, None, Some, IfOk, IfErr, OnOk, OnErr, IfSome, IfNone, length, slice_get};
+ghost use Rattle.std.specs.Prelude.{◌≡◌, IfOk, IfErr, OnOk, OnErr};
 ghost use Rattle.std.specs.Bool.{Decides};
 ghost use Rattle.std.specs.Option.{option_copied};
 ghost use Rattle.wac_types_base.specs.Entries.{value_at};
 ghost use Rattle.wac_graph_core.specs.Graph.{ContainsNode, node_at};
-ghost use Rattle.wac_graph_core.specs.Exporting.{IsExportName, Exports, IsTold, Unexports, Names, ExportRefused, UnexportRefused, place_of, import_name_of};
+ghost use Rattle.wac_graph_core.specs.Exporting.{IsExportName, Exports, IsTold, Unexports, Names, ExportRefused, UnexportRefused, import_name_of};
 
 use crate::errors::{ExportError, NameError, UnexportError};
 use crate::graph::CompositionGraph;
 use crate::ids::NodeId;
+use crate::named::NamedNodes;
 use std::alloc::{AllocError, Global};
 use wac_graph_bytes::{NameKind, component_name};
 use wac_types_base::Text;
-
-/// The node that is exported under a name.
-pub(crate) fn find_export(exports: &[(Text, NodeId)], name: &str) -> Option<NodeId>
-    ensures { result ≡ value_at exports.now name.now }
-{
-    for (own, node) in exports {
-        if name == own.as_str() {
-            return Some(*node);
-        }
-    }
-    None
-}
-
-/// Where the export of a name stands.
-fn place_of(exports: &[(Text, NodeId)], name: &str) -> Option<usize>
-    ensures { result ≡ place_of exports.now name.now }
-{
-    for (at, export) in exports.iter().enumerate() {
-        if name == export.0.as_str() {
-            return Some(at);
-        }
-    }
-    None
-}
 
 /// Whether a text is the name of an export: a plain one, or that of an interface.
 fn is_export_name(alloc: Global, name: &str) -> Result<bool, AllocError>
@@ -52,10 +29,10 @@ fn is_export_name(alloc: Global, name: &str) -> Result<bool, AllocError>
 
 impl CompositionGraph {
     /// The exports, in order.
-    pub fn exports(&self) -> &[(Text, NodeId)]
-        ensures { result.now ≡ self.now.exports }
+    pub fn exports(&self) -> &NamedNodes
+        ensures { result.now.items ≡ self.now.exports }
     {
-        self.exports.as_slice()
+        &self.exports
     }
 
     /// The node that is exported under a name.
@@ -87,9 +64,8 @@ impl CompositionGraph {
             });
         }
         let last = Text::new(String::from_str(self.alloc, name)?);
-        let text = Text::new(own);
         self.exports.reserve(1)?;
-        self.exports.push_reserved((text, node));
+        self.exports.push_reserved(own, node);
         self.nodes.set_export(node, Some(last));
         Ok(())
     }
@@ -101,7 +77,7 @@ impl CompositionGraph {
     {
         self.see_sound();
         match self.node(node).export_name() {
-            Some(name) => place_of(self.exports.as_slice(), name),
+            Some(name) => self.exports.place_of(name),
             None => None,
         }
     }
@@ -119,7 +95,7 @@ impl CompositionGraph {
         match self.export_place(node) {
             None => Ok(()),
             Some(at) => {
-                let _ = self.exports.swap_remove(at);
+                self.exports.swap_remove(at);
                 self.nodes.set_export(node, None);
                 Ok(())
             }

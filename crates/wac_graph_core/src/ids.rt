@@ -5,7 +5,7 @@ ghost use Rattle.std.specs.Prelude.{◌≡◌};
 use std::fmt;
 use std::marker::Model;
 
-/// A node of a graph, seen as its index. It prints its index. A later node has a greater one, and a graph gives none twice.
+/// A node of a graph, seen as its index. It prints its index. A new node has a greater one than all that stand.
 #[derive(Clone, Copy, Debug, PartialEq, Eq, PartialOrd, Ord, Hash)]
 pub struct NodeId {
     index: usize,

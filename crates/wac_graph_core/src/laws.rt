@@ -6,7 +6,9 @@ ghost use Rattle.wac_types_base.specs.Entries.{Name};
 ghost use Rattle.wac_graph_core.specs.declared.ids.PackageId.{PackageId as PackageName};
 ghost use Rattle.wac_graph_core.specs.Nodes.{NodeData};
 ghost use Rattle.wac_graph_core.specs.NodeMaps.{NodeMap, AreBelow, IsListedLast};
-ghost use Rattle.wac_graph_core.specs.Graph.{Graph, IsGraph};
+ghost use Rattle.wac_types_names.specs.Packaged.{Packaged};
+ghost use Rattle.wac_graph_core.specs.Graph.{Graph, IsGraph, PackageStands};
+ghost use Rattle.wac_graph_core.specs.Types.{Enlarges};
 ghost use Rattle.wac_graph_core.specs.Steps.{IsOneAlias, UnsetsAdded};
 ghost use Rattle.wac_graph_core.specs.Packages.{PlacesGrow, IsStale, IsGone};
 
@@ -23,6 +25,11 @@ pub fn unset_after_set()
 /// The id of an unregistered package never stands again while no generation is lowered.
 pub fn stale_ids_stay_stale()
     ensures { (g h : Graph) (id : PackageName) → PlacesGrow g.places h.places → IsStale g id → IsGone h id }
+{}
+
+/// A package that stands in a graph's collection stands there whatever is added.
+pub fn packages_still_stand()
+    ensures { (old new : Graph) (p : Packaged) → Enlarges old new → PackageStands old.types p → PackageStands new.types p }
 {}
 
 /// A node whose id is above all others is listed behind them.

@@ -19,7 +19,7 @@ use crate::ids::{NodeId, PackageId};
 use crate::node::Node;
 use crate::noted::{Noted, defined_type, none_noted, with_node, without_node};
 use crate::reach::{defined_of, is_marked, mark_reached, reaches};
-use crate::slots::{SlotIter, export_at, name_at, take_at};
+use crate::slots::{SlotIter, export_at, name_at, take_at, trim};
 use crate::type_map::TypeMap;
 use crate::type_set::TypeSet;
 use std::alloc::{AllocError, Global};
@@ -27,7 +27,8 @@ use std::marker::Model;
 use wac_types_base::replace::is_same;
 use wac_types_base::{DefinedTypeId, ItemKind, Text, Type, Types};
 
-/// Nodes under indexes that it picks. They rise: a new node is put behind all others, and a slot that was emptied stays so.
+/// Nodes under indexes that it picks. They rise: a new node is put behind all others. A slot that was emptied stays so
+/// while a node stands behind it.
 #[derive(Drop)]
 pub struct Nodes {
     slots: Vec<Option<Node>>,
@@ -180,6 +181,7 @@ impl Nodes {
         for id in gone {
             self.remove(*id);
         }
+        trim(&mut self.slots);
     }
 
     /// Whether it is known that no import has this name.

@@ -3,7 +3,7 @@
 ghost use Rattle.std.specs.Prelude.{◌≡◌, None, Some, option_map, slice_index_or, slice_set};
 ghost use Rattle.std.specs.Iterator.{YieldsFirstBy, item_count};
 ghost use Rattle.wac_graph_core.specs.Nodes.{NodeData};
-ghost use Rattle.wac_graph_core.specs.Slots.{entries_from};
+ghost use Rattle.wac_graph_core.specs.Slots.{entries_from, nodes_in};
 
 use crate::ids::NodeId;
 use crate::node::Node;
@@ -78,7 +78,7 @@ pub(crate) fn export_at(slot: &mut Option<Node>, name: Option<Text>)
     }
 }
 
-/// Takes the node in a slot away, if there is one. The slot stays, and stays empty.
+/// Takes the node in a slot away, if there is one. The slot stays.
 pub(crate) fn take_at(slots: &mut Vec<Option<Node>>, index: usize) -> Option<Node>
     ensures value { result ≡ slice_index_or slots.old.items index None }
     ensures slots { slots.new.items ≡ slice_set slots.old.items index None }
@@ -86,5 +86,20 @@ pub(crate) fn take_at(slots: &mut Vec<Option<Node>>, index: usize) -> Option<Nod
     match slots.get_mut(index) {
         Some(slot) => slot.take(),
         None => None,
+    }
+}
+
+/// Gives up the empty slots behind the last node.
+pub(crate) fn trim(slots: &mut Vec<Option<Node>>)
+    ensures { nodes_in slots.new.items ≡ nodes_in slots.old.items }
+{
+    while let Some(slot) = slots.pop() {
+        match slot {
+            Some(node) => {
+                slots.push_reserved(Some(node));
+                return;
+            }
+            None => {}
+        }
     }
 }

@@ -19,7 +19,7 @@ use Rattle.wac_graph_encode.specs.declared.fault.BytesError.{BytesError}
 use Rattle.wac_graph_encode.specs.declared.options.EncodeOptions.{EncodeOptions}
 use Rattle.wac_graph_encode.specs.Faults.{bytes_refusal}
 use Rattle.wac_graph_encode.specs.Finished.{IfOfSize}
-use Rattle.wac_graph_encode.specs.Refused.{cause_in, HasLargeProcessor, HasNoneAlike, HasNoneClashing, HasNoneFound, HasNoneUnwritten, IsFree, IsPastSize, IsRefusedFor, waiting_cause}
+use Rattle.wac_graph_encode.specs.Refused.{cause_in, HasLargeProcessor, HasNoCause, HasNoneAlike, HasNoneClashing, HasNoneFound, HasNoneUnwritten, IsFree, IsPastSize, IsRefusedFor, waiting_cause}
 
 pub if_of_size : {P Q : Type 0} (f : BytesError) → (P → Q) → IfOfSize P f → IfOfSize Q f
 if_of_size BytesError.TooLarge more h = more h
@@ -62,8 +62,11 @@ module _ (options : EncodeOptions) (g : Graph) where
   then_unwritten cause none e = past_conflicts none ∙ ap (λ o. option_or o (waiting_cause options g)) e
 
   -- where none of them is found, no cause stands
+  pub no_cause : HasNoneFound options g → waiting_cause options g ≡ None → HasNoCause options g
+  no_cause none waits = past_unwritten none ∙ waits
+
   pub is_free : {X E : Type 0} (r : Result X E) → HasNoneFound options g → OnOk r (waiting_cause options g ≡ None) → OnOk r (HasNoneAlike options g) → OnOk r (IsFree options g)
-  is_free (Ok x) none waits apart = record { cause = past_unwritten none ∙ waits; alike = apart }
+  is_free (Ok x) none waits apart = record { cause = no_cause none waits; alike = apart }
   is_free (Err e) none waits apart = tt
 
   pub implicit_refused : (e : Refusal) → IsImplicit g e → IsRefusedFor options g e
@@ -98,15 +101,15 @@ module _ (options : EncodeOptions) (g : Graph) where
   of_size BytesError.TooLarge past = inr (past refl)
   of_size BytesError.Memory past = tt
 
-  pub size_refused : (f : BytesError) → IfOfSize (HasLargeProcessor options ⊎ IsPastSize options g) f → IsRefusedFor options g (bytes_refusal f)
-  size_refused BytesError.TooLarge h = h
-  size_refused BytesError.Memory h = tt
+  pub size_refused : (f : BytesError) → HasNoCause options g → IfOfSize (HasLargeProcessor options ⊎ IsPastSize options g) f → IsRefusedFor options g (bytes_refusal f)
+  size_refused BytesError.TooLarge none h = (none, h)
+  size_refused BytesError.Memory none h = tt
 
-  pub alike_refused : (e : Refusal) → IsAlike options.define_components options.validate g e → IsRefusedFor options g e
-  alike_refused (Refusal.ImplicitImportConflict import instantiation key n) h = absurd h
-  alike_refused (Refusal.ExplicitImportConflict n first second) h = absurd h
-  alike_refused (Refusal.ImportTypeMergeConflict n first second source) h = absurd h
-  alike_refused (Refusal.TypeCannotBeWritten n) h = absurd h
-  alike_refused Refusal.TooLarge h = absurd h
-  alike_refused (Refusal.ValidationFailure fault) h = h
-  alike_refused Refusal.Memory h = tt
+  pub alike_refused : (e : Refusal) → HasNoCause options g → IsAlike options.define_components options.validate g e → IsRefusedFor options g e
+  alike_refused (Refusal.ImplicitImportConflict import instantiation key n) none h = absurd h
+  alike_refused (Refusal.ExplicitImportConflict n first second) none h = absurd h
+  alike_refused (Refusal.ImportTypeMergeConflict n first second source) none h = absurd h
+  alike_refused (Refusal.TypeCannotBeWritten n) none h = absurd h
+  alike_refused Refusal.TooLarge none h = absurd h
+  alike_refused (Refusal.ValidationFailure fault) none h = (none, h)
+  alike_refused Refusal.Memory none h = tt

@@ -33,6 +33,9 @@ module _ (options : EncodeOptions) (g : Graph) where
   abbrev pub HasNoneAlike : Type 0
   HasNoneAlike = alike_cause options.define_components options.validate g ≡ None
 
+  abbrev pub HasNoCause : Type 0
+  HasNoCause = cause_in ≡ None
+
 -- no import is asked by its name and by an instance, and none conflict
 pub record HasNoneClashing (g : Graph) : Type 0 where
   pub implicit : implicit_cause g ≡ None
@@ -45,7 +48,7 @@ pub record HasNoneFound (options : EncodeOptions) (g : Graph) : Type 0 where
 
 -- no cause stands against the composition, and no names are alike
 pub record IsFree (options : EncodeOptions) (g : Graph) : Type 0 where
-  pub cause : cause_in options g ≡ None
+  pub cause : HasNoCause options g
   pub alike : HasNoneAlike options g
 
 -- ---- sizes
@@ -64,8 +67,8 @@ pub record IsPastSize (options : EncodeOptions) (g : Graph) : Type 0 where
 
 -- ---- refusals
 
--- The error tells the first cause, or that the component passes 32 bits, or the first names that are alike. Of want of memory
--- nothing is said.
+-- The error tells the first cause; where none stands, that the component passes 32 bits, or the first names that are alike. Of
+-- want of memory nothing is said.
 abbrev pub IsErrorFor : EncodeOptions → Graph → EncodeError → Type 0
 IsErrorFor options g (EncodeError.ImplicitImportConflict import instantiation key n) =
     (cause_in options g ≡ Some (ImplicitImport (string_bytes n) import instantiation)) × IsKeyOf g instantiation key
@@ -74,9 +77,9 @@ IsErrorFor options g (EncodeError.ExplicitImportConflict n first second) =
 IsErrorFor options g (EncodeError.ImportTypeMergeConflict n first second source) =
     cause_in options g ≡ Some (ImportTypes (string_bytes n) first second)
 IsErrorFor options g (EncodeError.TypeCannotBeWritten n) = cause_in options g ≡ Some (Unwritable (string_bytes n))
-IsErrorFor options g EncodeError.TooLarge = HasLargeProcessor options ⊎ IsPastSize options g
+IsErrorFor options g EncodeError.TooLarge = HasNoCause options g × (HasLargeProcessor options ⊎ IsPastSize options g)
 IsErrorFor options g (EncodeError.ValidationFailure fault) =
-    alike_cause options.define_components options.validate g ≡ Some (names_told fault)
+    HasNoCause options g × (alike_cause options.define_components options.validate g ≡ Some (names_told fault))
 IsErrorFor options g (EncodeError.GraphContainsCycle node) = ⊥
 IsErrorFor options g EncodeError.Memory = Unit {0}
 

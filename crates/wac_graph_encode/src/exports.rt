@@ -12,9 +12,10 @@ use wac_types_base::{ItemKind, NamedMap};
 /// Where the exports of a graph stand, by their names.
 fn export_places(alloc: Global, graph: &CompositionGraph) -> Result<NamedMap<usize>, AllocError> {
     let mut places = NamedMap::new(alloc);
-    for at in 0..graph.exports().len() {
-        let (name, _) = &graph.exports()[at];
-        let _ = places.insert(String::from_str(alloc, name.as_str())?, at)?;
+    let listed = graph.exports();
+    for at in 0..listed.len() {
+        let (name, _) = listed.entry(at);
+        let _ = places.insert(String::from_str(alloc, name)?, at)?;
     }
     Ok(places)
 }
@@ -34,8 +35,8 @@ fn needs_of_export(
 
 /// What is exported at a place.
 fn exported_kind(graph: &CompositionGraph, at: usize) -> Option<ItemKind> {
-    match graph.exports().get(at) {
-        Some((_, node)) => kind_of(graph, *node),
+    match graph.exports().entry_at(at) {
+        Some((_, node)) => kind_of(graph, node),
         None => None,
     }
 }

@@ -37,7 +37,7 @@ impl From<WriteError> for BytesError {
 
     fn from(e: WriteError) -> Self {
         match e {
-            // No type is known that is not written though no cause stands against it, but no contract says so.
+            // What is not written though no cause stands against it; the page of this crate says of which graphs this is known.
             WriteError::Unwritable => BytesError::Memory,
             WriteError::Memory => BytesError::Memory,
         }

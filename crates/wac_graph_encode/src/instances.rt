@@ -321,10 +321,9 @@ fn export_at(
         entries.old.items entries.new.items) }
 {
     graph.see_sound();
-    match graph.exports().get(at) {
-        Some((name, node)) => {
-            let name = name.as_str();
-            export_other(graph.alloc(), nodes, exported, name, *node, entries)
+    match graph.exports().entry_at(at) {
+        Some(export) => {
+            export_other(graph.alloc(), nodes, exported, export.0, export.1, entries)
         }
         None => Ok(()),
     }

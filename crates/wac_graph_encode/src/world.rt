@@ -266,8 +266,9 @@ fn add_exports(
 {
     graph.see_sound();
     types.see_acyclic();
-    for (name, node) in graph.exports() {
-        let export = (name.as_str(), *node);
+    let listed = graph.exports();
+    for at in 0..listed.len() {
+        let export = listed.entry(at);
         add_export(graph, types, finals, copies, exports, export)?;
     }
     Ok(())

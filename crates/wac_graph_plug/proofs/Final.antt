@@ -29,7 +29,7 @@ use Rattle.wac_graph_core.proofs.WiringLaws.{once, binds_once, value_among}
 use Rattle.wac_graph_plug.specs.declared.matching.Match.{Match}
 use Rattle.wac_graph_plug.specs.Plugging.{AreMatches}
 use Rattle.wac_graph_plug.specs.Steps.{Grown, ExportsAll, exported_none, exported_next}
-use Rattle.wac_graph_plug.specs.Stops.{part_in, part_of, world_of, worlds_of, Plugs, socket_exports, IsPlugged}
+use Rattle.wac_graph_plug.specs.Stops.{part_in, part_of, world_of, worlds_of, Plugs, socket_exports, AreMatched, IsPlugged}
 use Rattle.wac_graph_plug.specs.Wired.{Part, export_for, or_later, bound_from, if_there, bound_source, socket_instance, plug_instance, plug_at, plugged}
 use Rattle.wac_graph_plug.proofs.Growing.{Grown-refl, Grown-trans, Grown-instance, Grown-exports, same_package, same_world, worlds_same}
 use Rattle.wac_graph_plug.proofs.State.{Bound, no_argument}
@@ -42,6 +42,21 @@ use Rattle.wac_types_base.proofs.Replacing.{same_number}
 use Rattle.wac_types_base.proofs.Lists.{last_among, value_none, value_named}
 use Rattle.wac_graph_core.proofs.Found.{eq_false, same_name, Among-front}
 use Rattle.wac_types_fit.proofs.Items.{Among-last}
+
+-- ---- matches
+
+-- the plugs have matches, no two of which share an import
+abbrev pub are_matched : (old new : Graph) (socket : PackageId) (ids : List PackageId) → IsGraph old → Plugs old new socket ids → AreMatched old socket ids
+are_matched old new socket ids sound r =
+    let mss = r.plugged.matches in
+    let grown = Grown-instance old r.first socket r.instance r.made in
+    let e = each_state r.made.of r.plugged.plugged (first_state old r.first socket r.instance sound r.made) (all_distinct r.first ids mss r.plugged.distinct r.plugged.are) in
+    record {
+      matches = mss;
+      are = subst (λ ws. AreMatches (world_of old socket) ws mss) (worlds_same old r.first grown ids) (subst (λ x. AreMatches x (worlds_of r.first ids) mss) (same_world old r.first grown socket) r.plugged.are);
+      some = sym r.plugged.has;
+      apart = subst AreDistinct e.2 e.1.distinct;
+    }
 
 -- ---- exports
 
@@ -480,12 +495,7 @@ module _ (old new : Graph) (socket : PackageId) (ids : List PackageId) (sound : 
 
   pub is_plugged : IsPlugged old new socket ids
   is_plugged =
-      let grown = Grown-instance old r.first socket s r.made in
-      let e = each_state sp r.plugged.plugged (first_state old r.first socket s sound r.made) (all_distinct r.first ids mss r.plugged.distinct r.plugged.are) in
       record {
-        matches = mss;
-        are = subst (λ ws. AreMatches (world_of old socket) ws mss) (worlds_same old r.first grown ids) (subst (λ x. AreMatches x (worlds_of r.first ids) mss) (same_world old r.first grown socket) r.plugged.are);
-        some = sym r.plugged.has;
-        apart = subst AreDistinct e.2 e.1.distinct;
+        matched = are_matched old new socket ids sound r;
         wiring = λ spell written outers W is. same_wiring spell written outers W is;
       }

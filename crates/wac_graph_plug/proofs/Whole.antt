@@ -1,5 +1,6 @@
 -- What plugging does as a whole.
-use Rattle.std.proofs.Common.{◌≡◌, ◌⊎◌, ℕ, Bool, true, false, List, subst, inl, inr}
+use Rattle.std.specs.Prelude.{Result, Ok, Err, ⊤, IfErr}
+use Rattle.std.proofs.Common.{◌≡◌, ℕ, Bool, true, false, List, sym, subst, inl, inr}
 use Rattle.wac_types_base.specs.Collection.{IsAcyclic}
 use Rattle.wac_graph_core.specs.declared.ids.PackageId.{PackageId}
 use Rattle.wac_graph_core.specs.Graph.{Graph, IsGraph}
@@ -7,7 +8,7 @@ use Rattle.wac_graph_core.specs.Steps.{Instantiates}
 use Rattle.wac_graph_plug.specs.declared.errors.PlugError.{PlugError}
 use Rattle.wac_graph_plug.specs.declared.errors.PlugFault.{PlugFault}
 use Rattle.wac_graph_plug.specs.Steps.{ExportsAll}
-use Rattle.wac_graph_plug.specs.Stops.{PlugsAll, StopsAll, StopsExporting, socket_exports, Plugs, PlugsNone, PlugRefused, PlugCause}
+use Rattle.wac_graph_plug.specs.Stops.{PlugsAll, StopsEach, StopsExporting, socket_exports, Plugs, PlugsNone, nothing_made, between_plugs, within_plug, within_exports, PlugRefused, PlugCause}
 use Rattle.wac_graph_plug.proofs.Causes.{argument_cause}
 use Rattle.wac_types_base.proofs.Looked.{among-get}
 
@@ -17,24 +18,30 @@ no_memory e = absurd (cc)
 nothing_memory : PlugError.NoPlugHappened ≡ PlugError.Memory → ⊥
 nothing_memory e = absurd (cc)
 
+-- nothing is made yet
+pub refused_first : (r : Result ⊤ PlugError) (old new : Graph) (socket : PackageId) (ids : List PackageId) → new ≡ old → IfErr r (λ e. e ≡ PlugError.Memory) → IfErr r (λ e. PlugRefused old new socket ids e)
+refused_first (Ok x) old new socket ids same is = tt
+refused_first (Err e) old new socket ids same is = subst (PlugRefused old new socket ids) (sym is) (nothing_made same)
+
 module _ (old first new : Graph) (socket : PackageId) (ids : List PackageId) (s : ℕ) (made : Instantiates old first socket s) where
   -- a match is not passed
-  pub refused_stop : (e : PlugError) → (e ≡ PlugError.Memory) ⊎ StopsAll first new socket ids s e → PlugRefused old new socket ids e
-  refused_stop PlugError.NoPlugHappened (inl m) = absurd (nothing_memory m)
+  pub refused_stop : (e : PlugError) → StopsEach first new socket ids s e → PlugRefused old new socket ids e
+  refused_stop PlugError.NoPlugHappened (inl m) = absurd (nothing_memory m.0)
   refused_stop PlugError.NoPlugHappened (inr r) = absurd r.stops.stops.stops.stops
-  refused_stop (PlugError.GraphError (PlugFault.Argument f)) (inl m) = absurd (no_memory m)
+  refused_stop (PlugError.GraphError (PlugFault.Argument f)) (inl m) = absurd (no_memory m.0)
   refused_stop (PlugError.GraphError (PlugFault.Argument f)) (inr r) = record { instance = s; first = first; made = made; stops = r }
-  refused_stop (PlugError.GraphError (PlugFault.Export f)) (inl m) = absurd (no_memory m)
+  refused_stop (PlugError.GraphError (PlugFault.Export f)) (inl m) = absurd (no_memory m.0)
   refused_stop (PlugError.GraphError (PlugFault.Export f)) (inr r) = absurd r.stops.stops.stops.stops
-  refused_stop PlugError.Memory r = tt
+  refused_stop PlugError.Memory (inl m) = between_plugs (record { instance = s; first = first; made = made; plugged = m.1 })
+  refused_stop PlugError.Memory (inr r) = within_plug (record { instance = s; first = first; made = made; stops = r })
 
-  pub cause_stop : IsGraph old → IsAcyclic old.types → (e : PlugError) → (e ≡ PlugError.Memory) ⊎ StopsAll first new socket ids s e → PlugCause old socket ids e
-  cause_stop sound acyclic PlugError.NoPlugHappened (inl m) = absurd (nothing_memory m)
+  pub cause_stop : IsGraph old → IsAcyclic old.types → (e : PlugError) → StopsEach first new socket ids s e → PlugCause old new socket ids e
+  cause_stop sound acyclic PlugError.NoPlugHappened (inl m) = absurd (nothing_memory m.0)
   cause_stop sound acyclic PlugError.NoPlugHappened (inr r) = absurd r.stops.stops.stops.stops
-  cause_stop sound acyclic (PlugError.GraphError (PlugFault.Argument f)) (inl m) = absurd (no_memory m)
+  cause_stop sound acyclic (PlugError.GraphError (PlugFault.Argument f)) (inl m) = absurd (no_memory m.0)
   cause_stop sound acyclic (PlugError.GraphError (PlugFault.Argument f)) (inr r) =
       argument_cause old new socket ids f sound acyclic (record { instance = s; first = first; made = made; stops = r })
-  cause_stop sound acyclic (PlugError.GraphError (PlugFault.Export f)) (inl m) = absurd (no_memory m)
+  cause_stop sound acyclic (PlugError.GraphError (PlugFault.Export f)) (inl m) = absurd (no_memory m.0)
   cause_stop sound acyclic (PlugError.GraphError (PlugFault.Export f)) (inr r) = absurd r.stops.stops.stops.stops
   cause_stop sound acyclic PlugError.Memory r = tt
 
@@ -49,12 +56,13 @@ module _ (old first second new : Graph) (socket : PackageId) (ids : List Package
   refused_export (PlugError.GraphError (PlugFault.Argument f)) r = absurd r.stops
   refused_export (PlugError.GraphError (PlugFault.Export f)) r =
       record { instance = s; first = first; second = second; made = made; plugged = subst (PlugsAll first second socket ids s) some plugged; stops = r }
-  refused_export PlugError.Memory r = tt
+  refused_export PlugError.Memory r =
+      within_exports (record { instance = s; first = first; second = second; made = made; plugged = subst (PlugsAll first second socket ids s) some plugged; stops = r })
 
-  pub cause_export : (e : PlugError) → StopsExporting s (socket_exports old socket) e second new → PlugCause old socket ids e
+  pub cause_export : (e : PlugError) → StopsExporting s (socket_exports old socket) e second new → PlugCause old new socket ids e
   cause_export PlugError.NoPlugHappened r = absurd r.stops
   cause_export (PlugError.GraphError (PlugFault.Argument f)) r = absurd r.stops
-  cause_export (PlugError.GraphError (PlugFault.Export f)) r = (r.at, among-get (socket_exports old socket) r.place r.at r.there, new, r.stops.3)
+  cause_export (PlugError.GraphError (PlugFault.Export f)) r = record { name = r.at; among = among-get (socket_exports old socket) r.place r.at r.there; refused = r.stops.3 }
   cause_export PlugError.Memory r = tt
 
   pub plugs_whole : ExportsAll s (socket_exports old socket) second new → Plugs old new socket ids

@@ -1,5 +1,5 @@
 -- Where plugging stops, and what it says then.
-use Rattle.std.specs.Prelude.{◌≡◌, ◌≢◌, ◌⊎◌, ℕ, Bool, true, false, ◌||◌, List, [], ◌∷◌, map, take, Option, Some, None, slice_get, string_bytes}
+use Rattle.std.specs.Prelude.{◌≡◌, ◌≢◌, ◌⊎◌, ◌<◌, ℕ, Bool, true, false, ◌||◌, List, [], ◌∷◌, length, map, take, Option, Some, None, slice_get, string_bytes}
 use Rattle.wac_types_base.specs.declared.item.ItemKind.{ItemKind}
 use Rattle.wac_types_base.specs.Record.{Collection}
 use Rattle.wac_types_base.specs.Entries.{Name, names_of, AreDistinct}
@@ -41,13 +41,17 @@ worlds_of g ids = map (world_of g) ids
 
 -- ---- stops
 
+-- no more than an alias of this export is made
+abbrev pub AliasesAtMost : Graph → Graph → ℕ → Name → Type 0
+AliasesAtMost old new i n = (new ≡ old) ⊎ ((k : ℕ) × Aliases old new i n k)
+
 -- a match is not passed
 abbrev pub StopsAt : ℕ → ℕ → Match → PlugError → Graph → Graph → Type 0
 StopsAt socket plug m (PlugError.GraphError (PlugFault.Argument f)) old new =
     (f ≢ InstantiationArgumentError.Memory) × (k : ℕ) × Aliases old new plug m.export k × ArgumentRefused new socket m.import k f
 StopsAt socket plug m (PlugError.GraphError (PlugFault.Export f)) old new = ⊥
 StopsAt socket plug m PlugError.NoPlugHappened old new = ⊥
-StopsAt socket plug m PlugError.Memory old new = Unit {0}
+StopsAt socket plug m PlugError.Memory old new = AliasesAtMost old new plug m.export
 
 -- one of these is not passed, and those before it are
 pub record StopsPassing (socket plug : ℕ) (ms : List Match) (e : PlugError) (old new : Graph) : Type 0 where
@@ -71,7 +75,7 @@ StopsExport socket n (PlugError.GraphError (PlugFault.Argument f)) old new = ⊥
 StopsExport socket n (PlugError.GraphError (PlugFault.Export f)) old new =
     (f ≢ ExportError.Memory) × (k : ℕ) × Aliases old new socket n k × ExportRefused new n f
 StopsExport socket n PlugError.NoPlugHappened old new = ⊥
-StopsExport socket n PlugError.Memory old new = Unit {0}
+StopsExport socket n PlugError.Memory old new = AliasesAtMost old new socket n
 
 -- one of these is not exported, and those before it are
 pub record StopsExporting (socket : ℕ) (ns : List Name) (e : PlugError) (old new : Graph) : Type 0 where
@@ -111,8 +115,10 @@ pub record StopsMatches (old new : Graph) (socket id : PackageId) (instance : �
   pub distinct : AreDistinct (names_of (exports_of (world_of old id)))
   pub stops : StopsOne instance id matches e old new
 
+-- a growth is refused before the plug is instantiated, or not all of its matches are passed
 abbrev pub StopsPlug : Graph → Graph → PackageId → PackageId → ℕ → PlugError → Type 0
-StopsPlug old new socket id instance e = (e ≡ PlugError.Memory) ⊎ StopsMatches old new socket id instance e
+StopsPlug old new socket id instance e =
+    ((e ≡ PlugError.Memory) × (new ≡ old)) ⊎ StopsMatches old new socket id instance e
 
 -- ---- each plug
 
@@ -132,6 +138,18 @@ pub record StopsAll (old new : Graph) (socket : PackageId) (ids : List PackageId
   pub happened : Bool
   pub before : PlugsAll old middle socket (take place ids) instance happened
   pub stops : StopsMatches middle new socket id instance e
+
+-- the first so many plugs are plugged, and not all are
+pub record PlugsSome (old new : Graph) (socket : PackageId) (ids : List PackageId) (instance : ℕ) : Type 0 where
+  pub count : ℕ
+  pub fewer : count < length ids
+  pub happened : Bool
+  pub plugged : PlugsAll old new socket (take count ids) instance happened
+
+-- a growth is refused between two plugs, or a plug stops
+abbrev pub StopsEach : Graph → Graph → PackageId → List PackageId → ℕ → PlugError → Type 0
+StopsEach old new socket ids instance e =
+    ((e ≡ PlugError.Memory) × PlugsSome old new socket ids instance) ⊎ StopsAll old new socket ids instance e
 
 -- ---- the whole
 
@@ -170,13 +188,27 @@ pub record StopsAfter (old new : Graph) (socket : PackageId) (ids : List Package
   pub plugged : PlugsAll first second socket ids instance true
   pub stops : StopsExporting instance (socket_exports old socket) e second new
 
+-- the socket is instantiated, and a growth is refused between two plugs
+pub record StopsBetween (old new : Graph) (socket : PackageId) (ids : List PackageId) : Type 0 where
+  pub instance : ℕ
+  pub first : Graph
+  pub made : Instantiates old first socket instance
+  pub plugged : PlugsSome first new socket ids instance
+
+-- how far plugging comes where a growth is refused
+pub data StopsShort (old new : Graph) (socket : PackageId) (ids : List PackageId) : Type 0 where
+  nothing_made : new ≡ old → StopsShort old new socket ids
+  between_plugs : StopsBetween old new socket ids → StopsShort old new socket ids
+  within_plug : StopsPlugging old new socket ids PlugError.Memory → StopsShort old new socket ids
+  within_exports : StopsAfter old new socket ids PlugError.Memory → StopsShort old new socket ids
+
 abbrev pub PlugRefused : Graph → Graph → PackageId → List PackageId → PlugError → Type 0
 PlugRefused old new socket ids PlugError.NoPlugHappened = PlugsNone old new socket ids
 PlugRefused old new socket ids (PlugError.GraphError (PlugFault.Argument f)) =
     StopsPlugging old new socket ids (PlugError.GraphError (PlugFault.Argument f))
 PlugRefused old new socket ids (PlugError.GraphError (PlugFault.Export f)) =
     StopsAfter old new socket ids (PlugError.GraphError (PlugFault.Export f))
-PlugRefused old new socket ids PlugError.Memory = Unit {0}
+PlugRefused old new socket ids PlugError.Memory = StopsShort old new socket ids
 
 -- ---- causes
 
@@ -205,21 +237,30 @@ pub record NoneMatches (g : Graph) (socket : PackageId) (ids : List PackageId) :
   pub are : AreMatches (world_of g socket) (worlds_of g ids) matches
   pub none : any_match matches ≡ false
 
-abbrev pub PlugCause : Graph → PackageId → List PackageId → PlugError → Type 0
-PlugCause g socket ids PlugError.NoPlugHappened = NoneMatches g socket ids
-PlugCause g socket ids (PlugError.GraphError (PlugFault.Argument f)) = MatchedTwice g socket ids f
-PlugCause g socket ids (PlugError.GraphError (PlugFault.Export f)) =
-    (n : Name) × Among n (socket_exports g socket) × (h : Graph) × ExportRefused h n f
-PlugCause g socket ids PlugError.Memory = Unit {0}
+-- the graph that is left refuses an export of the socket
+pub record RefusesExport (old new : Graph) (socket : PackageId) (f : ExportError) : Type 0 where
+  pub name : Name
+  pub among : Among name (socket_exports old socket)
+  pub refused : ExportRefused new name f
 
--- ---- the wiring
+abbrev pub PlugCause : Graph → Graph → PackageId → List PackageId → PlugError → Type 0
+PlugCause old new socket ids PlugError.NoPlugHappened = NoneMatches old socket ids
+PlugCause old new socket ids (PlugError.GraphError (PlugFault.Argument f)) = MatchedTwice old socket ids f
+PlugCause old new socket ids (PlugError.GraphError (PlugFault.Export f)) = RefusesExport old new socket f
+PlugCause old new socket ids PlugError.Memory = Unit {0}
 
--- the plugs have matches, no two of which share an import, and every wiring of the graph is the one that they make
-pub record IsPlugged (old new : Graph) (socket : PackageId) (ids : List PackageId) : Type 0 where
+-- ---- accepted plugs
+
+-- the plugs have matches, no two of which share an import
+pub record AreMatched (g : Graph) (socket : PackageId) (ids : List PackageId) : Type 0 where
   pub matches : List (List Match)
-  pub are : AreMatches (world_of old socket) (worlds_of old ids) matches
+  pub are : AreMatches (world_of g socket) (worlds_of g ids) matches
   pub some : any_match matches ≡ true
   pub apart : AreDistinct (imports_in matches)
+
+-- every wiring of the graph is the one that the matches make
+pub record IsPlugged (old new : Graph) (socket : PackageId) (ids : List PackageId) : Type 0 where
+  pub matched : AreMatched old socket ids
   pub wiring : (spell : Name → Name) (written : ItemKind → Tree) (outers : Name → Option Tree) (W : Wiring ℕ)
       → IsWiring spell written new outers W
-      → Same (plugged spell outers (part_of old socket) (map (part_of old) ids) matches) W
+      → Same (plugged spell outers (part_of old socket) (map (part_of old) ids) matched.matches) W

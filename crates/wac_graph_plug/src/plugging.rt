@@ -1,17 +1,16 @@
 //! Plugging packages into a socket.
 
-ghost use Rattle.std.specs.Prelude.{◌≡◌, ◌⊎◌, All, OnOk, OnErr, IfOk, IfErr};
+ghost use Rattle.std.specs.Prelude.{◌≡◌, All, OnOk, OnErr, IfOk, IfErr};
 ghost use Rattle.wac_types_base.specs.Collection.{Stands};
 ghost use Rattle.wac_types_base.specs.Entries.{Name, AreDistinct, names_of, texts_of};
 ghost use Rattle.wac_types_base.specs.Graph.{Among};
 ghost use Rattle.wac_types_base.specs.Stated.{exports_of, stated_world};
 ghost use Rattle.wac_graph_core.specs.declared.ids.PackageId.{PackageId as PackageName};
-ghost use Rattle.wac_graph_plug.specs.declared.errors.PlugError.{PlugError as Fault};
 ghost use Rattle.wac_graph_core.specs.Graph.{ContainsNode, ContainsPackage};
 ghost use Rattle.wac_graph_core.specs.Steps.{Aliases};
 ghost use Rattle.wac_graph_plug.specs.declared.matching.Match.{Match as MatchData};
 ghost use Rattle.wac_graph_plug.specs.Steps.{Grown, HasNoNodes, HasExport, Passes, PassesAll, ExportsOne, ExportsAll};
-ghost use Rattle.wac_graph_plug.specs.Stops.{StopsAt, StopsPassing, StopsExport, StopsExporting, StopsPlug, has_match, PlugsMatches, PlugsAll, StopsAll, Plugs, PlugRefused, PlugCause, IsPlugged};
+ghost use Rattle.wac_graph_plug.specs.Stops.{StopsAt, StopsPassing, StopsExport, StopsExporting, StopsPlug, has_match, PlugsMatches, PlugsAll, StopsEach, Plugs, PlugRefused, PlugCause, AreMatched, IsPlugged};
 
 use crate::errors::{PlugError, PlugFault};
 use crate::matching::{Match, matches_of};
@@ -165,7 +164,7 @@ fn plug_each(
     requires plugs { (id : PackageName) → Among id plugs.now → ContainsPackage graph.old id }
     requires instance { ContainsNode graph.old instance }
     ensures plugged { IfOk result (λ yes. PlugsAll graph.old graph.new socket plugs.now instance yes) }
-    ensures stopped { IfErr result (λ e. (e ≡ Fault.Memory) ⊎ StopsAll graph.old graph.new socket plugs.now instance e) }
+    ensures stopped { IfErr result (λ e. StopsEach graph.old graph.new socket plugs.now instance e) }
     ensures grown { Grown graph.old graph.new }
 {
     let mut happened = false;
@@ -212,9 +211,10 @@ pub fn plug(
     requires socket { ContainsPackage graph.old socket }
     requires plugs { All (ContainsPackage graph.old) plugs.items }
     ensures plugged { OnOk result (Plugs graph.old graph.new socket plugs.items) }
+    ensures accepted { OnOk result (AreMatched graph.old socket plugs.items) }
     ensures wired { OnOk result (HasNoNodes graph.old → IsPlugged graph.old graph.new socket plugs.items) }
     ensures refused { IfErr result (λ e. PlugRefused graph.old graph.new socket plugs.items e) }
-    ensures cause { IfErr result (λ e. PlugCause graph.old socket plugs.items e) }
+    ensures cause { IfErr result (λ e. PlugCause graph.old graph.new socket plugs.items e) }
     ensures grown { Grown graph.old graph.new }
 {
     graph.see_sound();

@@ -1,5 +1,5 @@
 -- Whether handles dangle in types, place by place, and what is kept of them.
-use Rattle.std.proofs.Common.{◌≡◌, ℕ, ◌+◌, ◌<◌, Bool, true, false, cond, List, [], ◌∷◌, Option, Some, None, inl, inr, refl, sym, ap, ◌∙◌, subst, arith}
+use Rattle.std.proofs.Common.{◌≡◌, ℕ, ◌+◌, ◌<◌, Bool, true, false, cond, List, [], Option, Some, None, inl, inr, refl, sym, ap, ◌∙◌, subst, arith}
 use Rattle.std.specs.Prelude.{slice_get}
 use Rattle.std.proofs.lemmas.Bool.{cases_eq}
 use Rattle.std.specs.Map.{lookup}
@@ -38,7 +38,7 @@ no_value n (Some a) v (inl e) = absurd (cc e)
 no_value n (Some a) v (inr (inl e)) = no_interface a.owner v e
 no_value n (Some a) v (inr (inr m)) = m
 
-no_value_in : (c : Collection) (r : ResourceId) (v : ValueType) → Stands c (ItemKind.Ty (TypeKind.Resource r)) → Among (Some (ItemKind.Value v)) (slots_of c (ItemKind.Ty (TypeKind.Resource r))) → ⊥
+pub no_value_in : (c : Collection) (r : ResourceId) (v : ValueType) → Stands c (ItemKind.Ty (TypeKind.Resource r)) → Among (Some (ItemKind.Value v)) (slots_of c (ItemKind.Ty (TypeKind.Resource r))) → ⊥
 no_value_in c r v s m =
     let f = resource_found c r s in
     no_value f.value.name f.value.alias v (subst (λ (l : List Slot). Among (Some (ItemKind.Value v)) l) (slots_resource c r f.value f.at f.own) m)
@@ -49,8 +49,8 @@ module _ (c : Collection) (s : TypeScope) where
   -- what dangles is such a handle, or one of its parts dangles
   by_kind : (k : ItemKind) (P : Type 0) → ((r : ResourceId) → k ≡ ItemKind.Value (ValueType.Own r) → IsUnnamed c s.resources r → P) → ((r : ResourceId) → k ≡ ItemKind.Value (ValueType.Borrow r) → IsUnnamed c s.resources r → P) → (PartDangles c s.resources s k → P)
       → Dangles c s.resources s k → P
-  by_kind _ P own borrow part (own_dangles {r = r} u) = own r refl u
-  by_kind _ P own borrow part (borrow_dangles {r = r} u) = borrow r refl u
+  by_kind _ P own borrow part (own_dangles {r = r} u f) = own r refl u
+  by_kind _ P own borrow part (borrow_dangles {r = r} u f) = borrow r refl u
   by_kind _ P own borrow part (part_dangles {v = v} f m h) = part (v, m, h)
 
   pub primitive_whole : (p : PrimitiveType) → NoneDangles c s (Some (ValueType.Primitive p))

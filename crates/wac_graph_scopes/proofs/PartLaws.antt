@@ -4,6 +4,7 @@ use Rattle.std.specs.Option.{option_map}
 use Rattle.wac_types_base.specs.declared.ids.InterfaceId.{InterfaceId}
 use Rattle.wac_types_base.specs.declared.ids.WorldId.{WorldId}
 use Rattle.wac_types_base.specs.declared.item.ItemKind.{ItemKind}
+use Rattle.wac_types_base.specs.declared.item.«Type».{«Type» as TypeKind}
 use Rattle.wac_types_base.specs.declared.defined.Interface.{Interface}
 use Rattle.wac_types_base.specs.declared.defined.World.{World}
 use Rattle.wac_types_base.specs.Record.{Collection}
@@ -12,7 +13,7 @@ use Rattle.wac_types_base.specs.Collection.{Entry, Stands, IsAcyclic, item_node,
 use Rattle.wac_types_base.proofs.Replacing.{number_same}
 use Rattle.wac_types_fit.proofs.Items.{value_at-among, exports_inside, world_imports_inside, world_exports_inside}
 use Rattle.wac_types_base.specs.Parts.{identifier_in, uses_in, exports_in, uses_in_world, imports_in_world, exports_in_world}
-use Rattle.wac_graph_scopes.specs.Parts.{at_own, interface_in, world_in, exports_of, uses_of, world_uses_of, imports_of, world_exports_of}
+use Rattle.wac_graph_scopes.specs.Parts.{at_own, interface_in, world_in, exports_of, uses_of, world_uses_of, imports_of, world_exports_of, IsUsedKind, used_kind}
 
 at_own-is : {E : Type 0} (c : Collection) (es : List E) (n i : ℕ) (x : E) → slice_get es i ≡ Some x → n ≡ c.number → at_own c es n i ≡ Some x
 at_own-is c es n i x e h = rw (number_same n c.number h, e) refl
@@ -87,3 +88,31 @@ pub name_at : {T : Type 0} (es : List (Name × T)) (i : ℕ) (n : Name) (v : T) 
 name_at [] i n v e = absurd (cc e)
 name_at (x ∷ es) zero n v e = let same : x ≡ (n, v) = cc e in ap (λ p. Some p.0) same
 name_at (x ∷ es) (suc i) n v e = name_at es i n v e
+
+-- ---- what is used
+
+pub used_itself : (k : ItemKind) → IsUsedKind k → used_kind k ≡ Some k
+used_itself (ItemKind.Ty (TypeKind.Resource r)) u = refl
+used_itself (ItemKind.Ty (TypeKind.Value v)) u = refl
+used_itself (ItemKind.Ty (TypeKind.Func f)) u = absurd u
+used_itself (ItemKind.Ty (TypeKind.Interface f)) u = absurd u
+used_itself (ItemKind.Ty (TypeKind.World f)) u = absurd u
+used_itself (ItemKind.Ty (TypeKind.Module f)) u = absurd u
+used_itself (ItemKind.Func f) u = absurd u
+used_itself (ItemKind.Instance f) u = absurd u
+used_itself (ItemKind.Component f) u = absurd u
+used_itself (ItemKind.Module f) u = absurd u
+used_itself (ItemKind.Value v) u = absurd u
+
+pub used_nothing : (k : ItemKind) → (IsUsedKind k → ⊥) → used_kind k ≡ None
+used_nothing (ItemKind.Ty (TypeKind.Resource r)) n = absurd (n tt)
+used_nothing (ItemKind.Ty (TypeKind.Value v)) n = absurd (n tt)
+used_nothing (ItemKind.Ty (TypeKind.Func f)) n = refl
+used_nothing (ItemKind.Ty (TypeKind.Interface f)) n = refl
+used_nothing (ItemKind.Ty (TypeKind.World f)) n = refl
+used_nothing (ItemKind.Ty (TypeKind.Module f)) n = refl
+used_nothing (ItemKind.Func f) n = refl
+used_nothing (ItemKind.Instance f) n = refl
+used_nothing (ItemKind.Component f) n = refl
+used_nothing (ItemKind.Module f) n = refl
+used_nothing (ItemKind.Value v) n = refl

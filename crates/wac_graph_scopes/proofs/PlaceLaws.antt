@@ -44,10 +44,14 @@ among_push (z ∷ xs) x y (inr m) = inr (among_push xs x y m)
 pub known_pushed : (xs ys : List KnownType) (k : KnownType) → ys ≡ xs ++ k ∷ [] → KeepsKnown xs ys
 known_pushed xs ys k e x m = subst (Among x) (sym e) (among_push xs x k m)
 
+-- what has its tree has it
+pub tree_on : (c : Collection) (xs ys : List KnownType) (t : Tree) → KeepsKnown xs ys → HasTree c xs t → HasTree c ys t
+tree_on c xs ys t a h = (h.0, a h.0 h.1, h.2, h.3)
+
 -- what is found stays found
 pub found_on : (c : Collection) (xs ys : List KnownType) (id : DefinedTypeId) → KeepsKnown xs ys → IsFound c xs id → IsFound c ys id
 found_on c xs ys id a (inl h) = inl (h.0, a h.0 h.1, h.2)
-found_on c xs ys id a (inr h) = inr (h.0, a h.0 h.1, h.2, h.3)
+found_on c xs ys id a (inr h) = inr (tree_on c xs ys (type_tree c id) a h)
 
 -- ---- the places
 
@@ -128,12 +132,12 @@ other_place c ks id at e none h f =
     none p.there (ap (slice_get ks.all.items) (sym same) ∙ p.stands) p.same
 
 -- by its tree
-pub no_print : (c : Collection) (ks : KnownTypes) (id : DefinedTypeId) → (FindsPrint ks.places.by_print.entries (type_print c id) → ⊥) → ArePlaces c ks → HasTree c ks.all.items (type_tree c id) → ⊥
-no_print c ks id none h f =
+pub no_print : (c : Collection) (ks : KnownTypes) (t : Tree) → (FindsPrint ks.places.by_print.entries (tree_print t) → ⊥) → ArePlaces c ks → HasTree c ks.all.items t → ⊥
+no_print c ks t none h f =
     let p = h.names f.0 f.1 f.2 in
     none (subst (λ (n : ℕ). FindsPrint ks.places.by_print.entries n) (print_same f.3) p.1)
   where
-    print_same : type_tree c f.0.id ≡ type_tree c id → type_print c f.0.id ≡ type_print c id
+    print_same : type_tree c f.0.id ≡ t → type_print c f.0.id ≡ tree_print t
     print_same e = ap tree_print e
 
 pub no_prints : (es : List (ℕ × ℕ)) (n : ℕ) → length es ≡ 0 → FindsPrint es n → ⊥

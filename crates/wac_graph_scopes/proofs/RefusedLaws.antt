@@ -3,6 +3,7 @@ use Rattle.std.proofs.Common.{◌≡◌, ℕ, List, Option, Some, None, Result, 
 use Rattle.std.specs.Prelude.{IfErr}
 use Rattle.wac_types_base.specs.declared.ids.DefinedTypeId.{DefinedTypeId}
 use Rattle.wac_types_base.specs.declared.ids.InterfaceId.{InterfaceId}
+use Rattle.wac_types_base.specs.declared.ids.ResourceId.{ResourceId}
 use Rattle.wac_types_base.specs.declared.ids.WorldId.{WorldId}
 use Rattle.wac_types_base.specs.declared.item.«Type».{«Type» as TypeKind}
 use Rattle.wac_types_base.specs.declared.item.ValueType.{ValueType}
@@ -20,13 +21,14 @@ use Rattle.wac_types_base.proofs.Slots.{slots_defined}
 use Rattle.wac_types_base.proofs.Standing.{defined_found}
 use Rattle.wac_types_base.proofs.Telling.{value_source}
 use Rattle.wac_types_base.proofs.Looked.{among-get}
+use Rattle.wac_types_fit.specs.Trees.{tree_in}
 use Rattle.wac_types_fit.specs.Checking.{value_in, HoldsValues}
 use Rattle.wac_graph_scopes.specs.declared.fault.WriteError.{WriteError}
 use Rattle.wac_graph_scopes.specs.declared.scope.TypeScope.{TypeScope}
 use Rattle.wac_graph_scopes.specs.Known.{KeepsKnown}
 use Rattle.wac_graph_scopes.specs.Scopes.{IsScopeOf, KeepsScope}
-use Rattle.wac_graph_scopes.specs.Refusals.{IsUnnamed, IsLookedUp, FindsAll, IsWhole, Dangles, own_dangles, borrow_dangles, part_dangles, DanglesApart, dangles_apart, part_apart, alias_apart, Refused, RefusedParts, RefusedApart, RefusedPlace}
-use Rattle.wac_graph_scopes.proofs.PlaceLaws.{found_on, scope_of_on, known_same_list}
+use Rattle.wac_graph_scopes.specs.Refusals.{IsUnnamed, IsUnknown, IsLookedUp, FindsAll, IsWhole, Dangles, own_dangles, borrow_dangles, part_dangles, DanglesApart, dangles_apart, own_apart, borrow_apart, part_apart, alias_apart, Refused, RefusedHandle, LacksTree, RefusedParts, RefusedApart, RefusedPlace}
+use Rattle.wac_graph_scopes.proofs.PlaceLaws.{tree_on, found_on, scope_of_on, known_same_list}
 
 pub if_err_map : {T E : Type 0} {P Q : E → Type 0} (r : Result T E) → ((e : E) → P e → Q e) → IfErr r P → IfErr r Q
 if_err_map (Ok x) f h = tt
@@ -49,12 +51,16 @@ later_same c s = record { scope = λ h. h; known = λ k m. m }
 pub later_same_list : (c : Collection) (s m : TypeScope) → KeepsScope c s m → m.known.all ≡ s.known.all → IsLater c s m
 later_same_list c s m keeps e = record { scope = scope_of_on c s m keeps; known = known_same_list s.known.all.items m.known.all.items (ap (λ v. v.items) e) }
 
+-- what no type had later none had before
+unknown_before : (c : Collection) (s m : TypeScope) → IsLater c s m → (v : ValueType) → IsUnknown c m v → IsUnknown c s v
+unknown_before c s m l v f h has = f (l.scope h) (tree_on c s.known.all.items m.known.all.items (tree_in c (ItemKind.Value v)) l.known has)
+
 -- what was not known later was not known before
 looked_up_before : (c : Collection) (s m : TypeScope) → IsLater c s m → (k : ItemKind) → IsLookedUp c m k → IsLookedUp c s k
 looked_up_before c s m l (ItemKind.Value (ValueType.Defined d)) f = λ no_alias h found. f no_alias (l.scope h) (found_on c s.known.all.items m.known.all.items d l.known found)
 looked_up_before c s m l (ItemKind.Value (ValueType.Primitive p)) f = tt
-looked_up_before c s m l (ItemKind.Value (ValueType.Own r)) f = tt
-looked_up_before c s m l (ItemKind.Value (ValueType.Borrow r)) f = tt
+looked_up_before c s m l (ItemKind.Value (ValueType.Own r)) f = unknown_before c s m l (ValueType.Own r) f
+looked_up_before c s m l (ItemKind.Value (ValueType.Borrow r)) f = unknown_before c s m l (ValueType.Borrow r) f
 looked_up_before c s m l (ItemKind.Ty t) f = tt
 looked_up_before c s m l (ItemKind.Func t) f = tt
 looked_up_before c s m l (ItemKind.Instance t) f = tt
@@ -62,8 +68,8 @@ looked_up_before c s m l (ItemKind.Component t) f = tt
 looked_up_before c s m l (ItemKind.Module t) f = tt
 
 pub dangles_before : (c : Collection) (rs : List (Name × ℕ)) (s m : TypeScope) → IsLater c s m → (k : ItemKind) → Dangles c rs m k → Dangles c rs s k
-dangles_before c rs s m l _ (own_dangles u) = own_dangles u
-dangles_before c rs s m l _ (borrow_dangles u) = borrow_dangles u
+dangles_before c rs s m l _ (own_dangles {r = r} u f) = own_dangles u (unknown_before c s m l (ValueType.Own r) f)
+dangles_before c rs s m l _ (borrow_dangles {r = r} u f) = borrow_dangles u (unknown_before c s m l (ValueType.Borrow r) f)
 dangles_before c rs s m l _ (part_dangles {k = k} {v = v} f among d) = part_dangles (looked_up_before c s m l k f) among (dangles_before c rs s m l (ItemKind.Value v) d)
 
 -- ---- in another scope with the same resources
@@ -129,15 +135,23 @@ type_refused_apart c (TypeKind.Interface f) s u e h = h
 type_refused_apart c (TypeKind.World f) s u e h = h
 type_refused_apart c (TypeKind.Module f) s u e h = h
 
--- what is no defined type is written in one way
-apart_dangles : (c : Collection) (rs : List (Name × ℕ)) (s : TypeScope) (k : ItemKind) → ((d : DefinedTypeId) → k ≡ ItemKind.Value (ValueType.Defined d) → ⊥) → DanglesApart c rs s k → Dangles c rs s k
-apart_dangles c rs s _ plain (dangles_apart h) = h
-apart_dangles c rs s _ plain (part_apart {d = d} h) = absurd (plain d refl)
-apart_dangles c rs s _ plain (alias_apart {d = d} at h) = absurd (plain d refl)
+-- ---- of handles
 
-pub plain_refused : (c : Collection) (v : ValueType) (s u : TypeScope) (e : WriteError) → ((d : DefinedTypeId) → v ≡ ValueType.Defined d → ⊥) → RefusedApart c (ItemKind.Value v) s u e → Refused c (ItemKind.Value v) s u e
-plain_refused c v s u WriteError.Unwritable plain h = apart_dangles c u.resources s (ItemKind.Value v) (λ d e. plain d (cc e)) h
-plain_refused c v s u WriteError.Memory plain h = tt
+pub own_refused : (c : Collection) (r : ResourceId) (s u : TypeScope) (e : WriteError) → u.resources ≡ s.resources → IsUnnamed c s.resources r → LacksTree c s (ValueType.Own r) e → Refused c (ItemKind.Value (ValueType.Own r)) s u e
+own_refused c r s u WriteError.Unwritable same h f = own_dangles (subst (λ (rs : List (Name × ℕ)). IsUnnamed c rs r) (sym same) h) f
+own_refused c r s u WriteError.Memory same h f = tt
+
+pub borrow_refused : (c : Collection) (r : ResourceId) (s u : TypeScope) (e : WriteError) → u.resources ≡ s.resources → IsUnnamed c s.resources r → LacksTree c s (ValueType.Borrow r) e → Refused c (ItemKind.Value (ValueType.Borrow r)) s u e
+borrow_refused c r s u WriteError.Unwritable same h f = borrow_dangles (subst (λ (rs : List (Name × ℕ)). IsUnnamed c rs r) (sym same) h) f
+borrow_refused c r s u WriteError.Memory same h f = tt
+
+pub own_refused_apart : (c : Collection) (r : ResourceId) (s u : TypeScope) (e : WriteError) → RefusedHandle c r u e → RefusedApart c (ItemKind.Value (ValueType.Own r)) s u e
+own_refused_apart c r s u WriteError.Unwritable h = own_apart h
+own_refused_apart c r s u WriteError.Memory h = tt
+
+pub borrow_refused_apart : (c : Collection) (r : ResourceId) (s u : TypeScope) (e : WriteError) → RefusedHandle c r u e → RefusedApart c (ItemKind.Value (ValueType.Borrow r)) s u e
+borrow_refused_apart c r s u WriteError.Unwritable h = borrow_apart h
+borrow_refused_apart c r s u WriteError.Memory h = tt
 
 -- ---- of what is at the end of aliases
 

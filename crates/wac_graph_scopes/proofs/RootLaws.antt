@@ -10,7 +10,7 @@ use Rattle.wac_types_base.proofs.Lists.{not_among}
 use Rattle.wac_types_base.specs.Tree.{Tree}
 use Rattle.wac_graph_bytes.specs.declared.value.Sort.{Sort}
 use Rattle.wac_graph_bytes.specs.declared.value.Sort.TheVariants as sort
-use Rattle.wac_graph_bytes.specs.Entries.{Alias, ExportAlias, OuterAlias, Declarations, End, CoreThen, TypeThen, ComponentTypeThen, InstanceTypeThen, AliasThen, ImportThen, ExportThen, PlainType, ComponentType, InstanceType, Entry, Core, Aliased, Typed, Imported, Exported}
+use Rattle.wac_graph_bytes.specs.Entries.{Alias, ExportAlias, OuterAlias, Declarations, End, CoreThen, TypeThen, ComponentTypeThen, InstanceTypeThen, AliasThen, ImportThen, ExportThen, PlainType, ComponentType, InstanceType, Entry, Core, Typed, Imported, Exported}
 use Rattle.wac_graph_bytes.specs.Typing.{◌>>=◌, Worlds, Meaning, Item, Known, Scope, Inside, with_one, with_core, nothing_inside, adds_inside, imports_inside, exports_inside, defined, described, alias_of, alias_sort, module_tree, instance_tree, component_tree, declared}
 use Rattle.wac_graph_bytes.specs.Wirings.{Source}
 use Rattle.wac_graph_bytes.specs.Meaning.{State, source_of, exports_one, step, steps}

@@ -1,5 +1,5 @@
 -- What holds of the imports and exports of a world while they are written.
-use Rattle.std.specs.Prelude.{◌≡◌, ℕ, ◌+◌, List, [], ◌∷◌, ◌++◌, length, take, Result, Option, Some, None, slice_get, Bool, true, false, IfOk, IfSome, option_to_list, map, ◌⊎◌}
+use Rattle.std.specs.Prelude.{◌≡◌, ℕ, ◌+◌, List, [], ◌∷◌, ◌++◌, length, Result, Option, Some, None, slice_get, Bool, true, false, IfOk, IfSome, option_to_list, map, ◌⊎◌}
 use Rattle.std.specs.declared.alloc.Global.{Global}
 use Rattle.std.specs.declared.vec.Vec.{Vec}
 use Rattle.wac_types_base.specs.declared.ids.InterfaceId.{InterfaceId}
@@ -29,7 +29,7 @@ use Rattle.wac_graph_scopes.specs.declared.imports.Called.{Called}
 use Rattle.wac_graph_scopes.specs.declared.parts.Item.{Item}
 use Rattle.wac_graph_scopes.specs.declared.parts.Use.{Use}
 use Rattle.wac_graph_scopes.specs.Used.{IsUsedAs}
-use Rattle.wac_graph_scopes.specs.Parts.{interface_in, exports_of, imports_of, world_exports_of, IsUsedKind}
+use Rattle.wac_graph_scopes.specs.Parts.{interface_in, exports_of, world_uses_of, imports_of, world_exports_of, IsUseNamed, IsUsedKind}
 use Rattle.wac_graph_scopes.specs.Scopes.{Extends, GoesOn, AreKnown}
 use Rattle.wac_graph_scopes.specs.Items.{IsItemScope, AreUsed, IsTypeItem, IsInstanceAt, IsTreeOf, sort_of, IsSorted, Writing, StatesComponent}
 
@@ -39,6 +39,11 @@ all_imports a = imports_of a.types.now a.world
 
 abbrev pub all_exports : Importing → List (Name × ItemKind)
 all_exports a = world_exports_of a.types.now a.world
+
+-- the use that gives a name: the world's own, or else one that is told beside the world
+abbrev pub IsUseOf : Importing → Name → Use → Type 0
+IsUseOf a n u = IsUseNamed (world_uses_of a.types.now a.world) n u
+    ⊎ ((value_at (world_uses_of a.types.now a.world) n ≡ None) × IsUseNamed a.uses.now n u)
 
 -- ---- what is written of imports
 

@@ -10,7 +10,7 @@ use Rattle.wac_types_base.specs.declared.defined.Interface.{Interface}
 use Rattle.wac_types_base.specs.declared.defined.World.{World}
 use Rattle.wac_types_base.specs.declared.defined.UsedType.{UsedType}
 use Rattle.wac_types_base.specs.Record.{Collection}
-use Rattle.wac_types_base.specs.Entries.{Name}
+use Rattle.wac_types_base.specs.Entries.{Name, value_at}
 use Rattle.wac_types_base.specs.Collection.{Stands, resource}
 use Rattle.wac_types_base.specs.Tree.{rigid, end}
 use Rattle.wac_types_fit.specs.Trees.{tree_in}
@@ -57,6 +57,23 @@ abbrev pub IsUsedKind : ItemKind → Type 0
 IsUsedKind (ItemKind.Ty (TypeKind.Resource r)) = Unit {0}
 IsUsedKind (ItemKind.Ty (TypeKind.Value v)) = Unit {0}
 IsUsedKind k = ⊥
+
+abbrev pub used_kind : ItemKind → Option ItemKind
+used_kind (ItemKind.Ty (TypeKind.Resource r)) = Some (ItemKind.Ty (TypeKind.Resource r))
+used_kind (ItemKind.Ty (TypeKind.Value v)) = Some (ItemKind.Ty (TypeKind.Value v))
+used_kind k = None
+
+abbrev pub used_if : Option ItemKind → Option ItemKind
+used_if None = None
+used_if (Some k) = used_kind k
+
+-- the resource or the value type that a use takes
+abbrev pub taken_in : Collection → Use → Option ItemKind
+taken_in c u = used_if (value_at (exports_of c u.interface) u.there.now)
+
+-- the use among these that gives a name
+abbrev pub IsUseNamed : List (Name × UsedType) → Name → Use → Type 0
+IsUseNamed us n u = (x : UsedType) × (value_at us n ≡ Some x) × IsUse (n, x) u
 
 -- the instance or the interface type of that interface
 abbrev pub IsOfInterface : ItemKind → InterfaceId → Type 0

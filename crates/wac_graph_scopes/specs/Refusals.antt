@@ -27,16 +27,23 @@ pub record IsUnnamed (c : Collection) (rs : List (Name × ℕ)) (r : ResourceId)
   pub root : tree_in c (ItemKind.Ty (TypeKind.Resource r)) ≡ rigid (resource name) end
   pub lacking : value_at rs name ≡ None
 
--- of a defined type that is no alias it is said that it is not known in the scope
+-- no type that is known with a name has its tree
+abbrev pub IsUnknown : Collection → TypeScope → ValueType → Type 0
+IsUnknown c s v = IsScopeOf c s → HasTree c s.known.all.items (tree_in c (ItemKind.Value v)) → ⊥
+
+-- of a handle, and of a defined type that is no alias, it is said that it is not known in the scope
 abbrev pub IsLookedUp : Collection → TypeScope → ItemKind → Type 0
+IsLookedUp c s (ItemKind.Value (ValueType.Own r)) = IsUnknown c s (ValueType.Own r)
+IsLookedUp c s (ItemKind.Value (ValueType.Borrow r)) = IsUnknown c s (ValueType.Borrow r)
 IsLookedUp c s (ItemKind.Value (ValueType.Defined d)) =
     IsNoAlias c (ValueType.Defined d) → IsScopeOf c s → IsFound c s.known.all.items d → ⊥
 IsLookedUp c s k = Unit {0}
 
--- In what a kind names stands a handle of a resource that has no index there, and no type around it is known.
+-- In what a kind names stands a handle of a resource that has no index there, and neither it nor a type around it is known.
 pub data Dangles (c : Collection) (rs : List (Name × ℕ)) (s : TypeScope) : ItemKind → Type 0 where
-  own_dangles : {r : ResourceId} → IsUnnamed c rs r → Dangles c rs s (ItemKind.Value (ValueType.Own r))
-  borrow_dangles : {r : ResourceId} → IsUnnamed c rs r → Dangles c rs s (ItemKind.Value (ValueType.Borrow r))
+  own_dangles : {r : ResourceId} → IsUnnamed c rs r → IsUnknown c s (ValueType.Own r) → Dangles c rs s (ItemKind.Value (ValueType.Own r))
+  borrow_dangles : {r : ResourceId} → IsUnnamed c rs r → IsUnknown c s (ValueType.Borrow r)
+      → Dangles c rs s (ItemKind.Value (ValueType.Borrow r))
   part_dangles : {k : ItemKind} {v : ValueType} → IsLookedUp c s k → Among (Some (ItemKind.Value v)) (slots_of c k)
       → Dangles c rs s (ItemKind.Value v) → Dangles c rs s k
 
@@ -71,13 +78,26 @@ TellsLacking c s P old new r = AreLacking c s old → IfOk r (λ b. AreLacking c
 abbrev pub NoneDangles : Collection → TypeScope → Option ValueType → Type 0
 NoneDangles c s o = (v : ValueType) → o ≡ Some v → Dangles c s.resources s (ItemKind.Value v) → ⊥
 
--- Likewise of what is written whether or not it is known: of what is at the end of its aliases a part dangles.
+-- Likewise of what is written whether or not it is known: what is at the end of its aliases is such a handle, or a part of it
+-- dangles.
 pub data DanglesApart (c : Collection) (rs : List (Name × ℕ)) (s : TypeScope) : ItemKind → Type 0 where
   dangles_apart : {k : ItemKind} → Dangles c rs s k → DanglesApart c rs s k
+  own_apart : {r : ResourceId} → IsUnnamed c rs r → DanglesApart c rs s (ItemKind.Value (ValueType.Own r))
+  borrow_apart : {r : ResourceId} → IsUnnamed c rs r → DanglesApart c rs s (ItemKind.Value (ValueType.Borrow r))
   part_apart : {d : DefinedTypeId} → PartDangles c rs s (ItemKind.Value (ValueType.Defined d))
       → DanglesApart c rs s (ItemKind.Value (ValueType.Defined d))
   alias_apart : {d : DefinedTypeId} {v : ValueType} → slice_get c.defined_types d.index ≡ Some (DefinedType.Alias v)
       → DanglesApart c rs s (ItemKind.Value v) → DanglesApart c rs s (ItemKind.Value (ValueType.Defined d))
+
+-- why a new entry of a handle could not be written
+abbrev pub RefusedHandle : Collection → ResourceId → TypeScope → WriteError → Type 0
+RefusedHandle c r u WriteError.Unwritable = IsUnnamed c u.resources r
+RefusedHandle c r u WriteError.Memory = Unit {0}
+
+-- why no type with a name stands for a value type
+abbrev pub LacksTree : Collection → TypeScope → ValueType → WriteError → Type 0
+LacksTree c s v WriteError.Unwritable = IsUnknown c s v
+LacksTree c s v WriteError.Memory = Unit {0}
 
 -- why what a kind names could not be written in the scope, which became another one
 abbrev pub Refused : Collection → ItemKind → TypeScope → TypeScope → WriteError → Type 0

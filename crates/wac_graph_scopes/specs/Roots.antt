@@ -3,7 +3,7 @@ use Rattle.std.specs.Prelude.{◌≡◌, ℕ, zero, Bool, true, false, List, [],
 use Rattle.std.specs.List.{AllZip}
 use Rattle.wac_types_base.specs.Entries.{Name, names_of, has_name}
 use Rattle.wac_graph_bytes.specs.declared.value.Sort.TheVariants as sort
-use Rattle.wac_graph_bytes.specs.Entries.{Alias, ExportAlias, OuterAlias, Declarations, End, CoreThen, TypeThen, ComponentTypeThen, InstanceTypeThen, AliasThen, ImportThen, ExportThen, PlainType, ComponentType, InstanceType, Entry, Core, Aliased, Typed, Imported, Exported}
+use Rattle.wac_graph_bytes.specs.Entries.{Alias, OuterAlias, Declarations, End, CoreThen, TypeThen, ComponentTypeThen, InstanceTypeThen, AliasThen, ImportThen, ExportThen, PlainType, ComponentType, InstanceType, Entry, Core, Aliased, Typed, Imported, Exported}
 use Rattle.wac_graph_bytes.specs.Typing.{Worlds, Meaning, Inside, declared}
 use Rattle.wac_graph_bytes.specs.Wirings.{Source}
 use Rattle.wac_graph_bytes.specs.Meaning.{State, source_of, steps}

@@ -29,7 +29,7 @@ use Rattle.wac_graph_bytes.specs.Views.{before, declarations_of, defined_view}
 use Rattle.wac_graph_scopes.specs.declared.scope.KnownType.{KnownType}
 use Rattle.wac_graph_scopes.specs.declared.scope.KnownTypes.{KnownTypes}
 use Rattle.wac_graph_scopes.specs.declared.scope.TypeScope.{TypeScope}
-use Rattle.wac_graph_scopes.specs.Known.{ArePlaces, HasPrint, HasTree, type_tree, HasId, IsIndexOf}
+use Rattle.wac_graph_scopes.specs.Known.{ArePlaces, HasPrint, HasTree, HasId, IsIndexOf}
 
 -- more may stand, and what stood stands
 pub record Extends (old new : Scope) : Type 0 where
@@ -197,8 +197,8 @@ WritesEntry c id old new r =
     → IfOk r (λ k. AnswersValue w c outer i (tree_in c (ItemKind.Value (ValueType.Defined id))) new (Index k))
 
 -- nothing is found only where no type with a name has its tree
-abbrev pub FindsTree : Collection → TypeScope → DefinedTypeId → Option ℕ → Type 0
-FindsTree c s id o = IsScopeOf c s → IfNone o (HasTree c s.known.all.items (type_tree c id) → ⊥)
+abbrev pub FindsTree : Collection → TypeScope → ValueType → Option ℕ → Type 0
+FindsTree c s v o = IsScopeOf c s → IfNone o (HasTree c s.known.all.items (tree_in c (ItemKind.Value v)) → ⊥)
 
 -- a value type that is known by its own id is written as the index that is remembered of it
 abbrev pub WritesOwn : {E : Type 0} → TypeScope → ValueType → Result Written E → Type 0

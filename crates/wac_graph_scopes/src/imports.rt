@@ -15,7 +15,7 @@ ghost use Rattle.wac_graph_scopes.specs.Parts.{IsUsedKind};
 ghost use Rattle.wac_graph_scopes.specs.Items.{IsItemScope, with_known, Never, Misses, HasNameAt, HasEntry, IsNoResource, DescribesSimply, DescribesEntry, DescribesOwn};
 ghost use Rattle.wac_graph_scopes.specs.Orders.{IsOrder, SourcesFirst};
 ghost use Rattle.wac_graph_scopes.specs.ItemRefusals.{RefusedTypeApart, RefusedItem, RefusedUse};
-ghost use Rattle.wac_graph_scopes.specs.Imports.{all_imports, all_exports, NoneWritten, IsInstanceImport, IsPlaced, GivesTaken, NotGiven, FindsSource, AddsUsed, AliasesUse, KeepsWorld, DescribesImport, DescribesThere, DescribesOther, MayDescribe};
+ghost use Rattle.wac_graph_scopes.specs.Imports.{all_imports, all_exports, IsUseOf, NoneWritten, IsInstanceImport, IsPlaced, GivesTaken, NotGiven, FindsSource, AddsUsed, AliasesUse, KeepsWorld, DescribesImport, DescribesThere, DescribesOther, MayDescribe};
 ghost use Rattle.wac_graph_scopes.specs.Imports.{called_places, own_places, import_places, FindsFirst, IsImportedAs, IsFoundFor, FindsImported};
 ghost use Rattle.wac_graph_scopes.specs.Imports.{ImportsDescribed, ImportsAt, WritesImport, WritesInOrder, ExportsIndexed, BeginsWorld};
 
@@ -78,7 +78,10 @@ pub struct Importing<'a> {
 }
 
 /// The use that gives a name: the world's own, or else one that is told beside the world.
-pub(crate) fn use_of<'a>(all: Importing<'a>, name: &'a str) -> Option<Use<'a>> {
+pub(crate) fn use_of<'a>(all: Importing<'a>, name: &'a str) -> Option<Use<'a>>
+    ensures found { IfSome result (IsUseOf all.entry name.now) }
+    ensures none { IfNone result (Never (IsUseOf all.entry name.now)) }
+{
     match world_use_named(all.types, all.world, name) {
         Some(used) => Some(used),
         None => use_named(all.uses, name),

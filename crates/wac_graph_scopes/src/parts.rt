@@ -1,6 +1,6 @@
 //! The parts of interfaces and worlds, one by one. What does not stand has none.
 
-ghost use Rattle.std.specs.Prelude.{◌≡◌, ◌≤◌, ◌↔◌, IfSome, IfNone, Some, IsTrue, length, slice_get};
+ghost use Rattle.std.specs.Prelude.{◌≡◌, ◌≤◌, ◌↔◌, IfSome, IfNone, Some, None, IsTrue, length, slice_get};
 ghost use Rattle.std.specs.Option.{option_copied};
 ghost use Rattle.wac_types_base.specs.declared.ids.InterfaceId.{InterfaceId};
 ghost use Rattle.wac_types_base.specs.declared.ids.WorldId.{WorldId};
@@ -12,7 +12,7 @@ ghost use Rattle.wac_types_base.specs.Tree.{rigid, end};
 ghost use Rattle.wac_types_fit.specs.Trees.{IsInside, tree_in};
 ghost use Rattle.wac_types_base.specs.Parts.{identifier_in};
 ghost use Rattle.wac_graph_scopes.specs.Parts.{interface_in, exports_of, uses_of, world_uses_of, imports_of, world_exports_of};
-ghost use Rattle.wac_graph_scopes.specs.Parts.{IsUse, IsUseAt, IsUsedKind, IsOfInterface, IsOfWorld, IsFresh, IsRootName};
+ghost use Rattle.wac_graph_scopes.specs.Parts.{IsUse, IsUseAt, IsUseNamed, IsUsedKind, taken_in, IsOfInterface, IsOfWorld, IsFresh, IsRootName};
 
 use wac_types_base::{InterfaceId, ItemKind, NamedMap, ResourceId, Type, Types, UsedType, WorldId};
 
@@ -232,7 +232,10 @@ pub fn world_use_at(types: &Types, id: WorldId, at: usize) -> Option<Use<'_>>
 }
 
 /// The world's use that gives a name.
-pub fn world_use_named<'a>(types: &'a Types, id: WorldId, name: &'a str) -> Option<Use<'a>> {
+pub fn world_use_named<'a>(types: &'a Types, id: WorldId, name: &'a str) -> Option<Use<'a>>
+    ensures found { IfSome result (IsUseNamed (world_uses_of types.now id) name.now) }
+    ensures none { IfNone result (value_at (world_uses_of types.now id) name.now ≡ None) }
+{
     if types.has(ItemKind::Component(id)) {
         use_named(&types.world(id).uses, name)
     } else {
@@ -241,7 +244,10 @@ pub fn world_use_named<'a>(types: &'a Types, id: WorldId, name: &'a str) -> Opti
 }
 
 /// The use among these that gives a name.
-pub fn use_named<'a>(uses: &'a NamedMap<UsedType>, name: &'a str) -> Option<Use<'a>> {
+pub fn use_named<'a>(uses: &'a NamedMap<UsedType>, name: &'a str) -> Option<Use<'a>>
+    ensures found { IfSome result (IsUseNamed uses.now name.now) }
+    ensures none { IfNone result (value_at uses.now name.now ≡ None) }
+{
     match uses.get(name) {
         Some(used) => Some(use_of(name, used)),
         None => None,
@@ -352,6 +358,7 @@ pub(crate) fn is_used_kind(kind: ItemKind) -> bool
 
 /// The resource or the value type that a use takes.
 pub fn taken(types: &Types, used: Use<'_>) -> Option<ItemKind>
+    ensures value { result ≡ taken_in types.now used.entry }
     ensures stands { IfSome result (Stands types.now) }
     ensures kind { IfSome result IsUsedKind }
 {
@@ -363,8 +370,9 @@ pub fn taken(types: &Types, used: Use<'_>) -> Option<ItemKind>
 
 /// Whether the item is a resource under its own name.
 pub fn is_fresh(types: &Types, item: Item<'_>) -> bool
-    ensures { IsTrue result → IsFresh types.now item.entry.name.now item.entry.kind }
+    ensures { IsTrue result ↔ IsFresh types.now item.entry.name.now item.entry.kind }
 {
+    types.see_acyclic();
     match item.kind {
         ItemKind::Ty(ty) => match ty {
             Type::Resource(id) => types.has(item.kind) && root_name(types, id) == item.name,

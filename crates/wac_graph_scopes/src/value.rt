@@ -9,8 +9,8 @@ ghost use Rattle.wac_types_base.specs.Resolving.{IsNoAlias};
 ghost use Rattle.wac_types_fit.specs.Trees.{tree_in, Fit};
 ghost use Rattle.wac_types_fit.specs.Checking.{value_in, HoldsValues, value_tree, place_trees};
 ghost use Rattle.wac_graph_scopes.specs.declared.fault.WriteError.{WriteError};
-ghost use Rattle.wac_graph_scopes.specs.Known.{type_tree, HasId, DiffersAt, KeepsKnown};
-ghost use Rattle.wac_graph_scopes.specs.Refusals.{FindsNeeded, FindsAll, Refused, RefusedParts, RefusedApart, RefusedPlace, RefusedThere, RefusedThereApart};
+ghost use Rattle.wac_graph_scopes.specs.Known.{HasId, DiffersAt, KeepsKnown};
+ghost use Rattle.wac_graph_scopes.specs.Refusals.{FindsNeeded, FindsAll, LacksTree, Refused, RefusedHandle, RefusedParts, RefusedApart, RefusedPlace, RefusedThere, RefusedThereApart};
 ghost use Rattle.wac_graph_scopes.specs.Scopes.{KeepsScope, FindsOwn, FindsType, FindsTree, FindsValue, WritesValue, WritesOwn, WritesDefined, WritesType, WritesPlaces, WritesPlace, WritesEntry, WritesIndex, MakesEntry, RemembersOne, RemembersValue, NotesValue, NotesOwn};
 
 use crate::entry::{entry_of, func_entry_of};
@@ -32,7 +32,7 @@ fn define_own(scope: &mut TypeScope, types: &Types, id: ResourceId) -> Result<u6
     requires { Stands types.now (ItemKind.Value (ValueType.Own id)) }
     ensures writes { WritesIndex types.now (tree_in types.now (ItemKind.Value (ValueType.Own id))) scope.old scope.new result }
     ensures entry { MakesEntry types.now scope.old scope.new result }
-    ensures refused { IfErr result (Refused types.now (ItemKind.Value (ValueType.Own id)) scope.old scope.new) }
+    ensures refused { IfErr result (RefusedHandle types.now id scope.new) }
     ensures known { scope.new.known ≡ scope.old.known }
     ensures resources { scope.new.resources ≡ scope.old.resources }
 {
@@ -42,14 +42,39 @@ fn define_own(scope: &mut TypeScope, types: &Types, id: ResourceId) -> Result<u6
     Ok(index)
 }
 
-fn push_own(scope: &mut TypeScope, types: &Types, id: ResourceId) -> Result<Written, WriteError>
+/// The index of such a handle: of a new entry, or of a type with a name that is equal, where the resource does not stand.
+fn own_index(
+    alloc: Global,
+    scope: &mut TypeScope,
+    types: &Types,
+    id: ResourceId,
+) -> Result<u64, WriteError>
+    requires { Stands types.now (ItemKind.Value (ValueType.Own id)) }
+    ensures writes { WritesIndex types.now (tree_in types.now (ItemKind.Value (ValueType.Own id))) scope.old scope.new result }
+    ensures refused { IfErr result (Refused types.now (ItemKind.Value (ValueType.Own id)) scope.old scope.new) }
+    ensures known { OnOk result (KeepsKnown scope.old.known.all.items scope.new.known.all.items) }
+    ensures resources { scope.new.resources ≡ scope.old.resources }
+{
+    types.see_acyclic();
+    match resource_of(scope, types, id) {
+        Ok(resource) => Ok(scope.define(TypeEntry::Own(resource))?),
+        Err(_) => equal_handle(alloc, scope, types, ValueType::Own(id)),
+    }
+}
+
+fn push_own(
+    alloc: Global,
+    scope: &mut TypeScope,
+    types: &Types,
+    id: ResourceId,
+) -> Result<Written, WriteError>
     requires { Stands types.now (ItemKind.Value (ValueType.Own id)) }
     ensures writes { WritesValue types.now (tree_in types.now (ItemKind.Value (ValueType.Own id))) scope.old scope.new result }
     ensures refused { IfErr result (Refused types.now (ItemKind.Value (ValueType.Own id)) scope.old scope.new) }
-    ensures known { scope.new.known ≡ scope.old.known }
+    ensures known { OnOk result (KeepsKnown scope.old.known.all.items scope.new.known.all.items) }
     ensures resources { scope.new.resources ≡ scope.old.resources }
 {
-    let index = define_own(scope, types, id)?;
+    let index = own_index(alloc, scope, types, id)?;
     Ok(Written::Index(index))
 }
 
@@ -59,7 +84,7 @@ fn define_borrow(scope: &mut TypeScope, types: &Types, id: ResourceId) -> Result
     ensures writes { WritesIndex types.now
         (tree_in types.now (ItemKind.Value (ValueType.Borrow id))) scope.old scope.new result }
     ensures entry { MakesEntry types.now scope.old scope.new result }
-    ensures refused { IfErr result (Refused types.now (ItemKind.Value (ValueType.Borrow id)) scope.old scope.new) }
+    ensures refused { IfErr result (RefusedHandle types.now id scope.new) }
     ensures known { scope.new.known ≡ scope.old.known }
     ensures resources { scope.new.resources ≡ scope.old.resources }
 {
@@ -69,15 +94,41 @@ fn define_borrow(scope: &mut TypeScope, types: &Types, id: ResourceId) -> Result
     Ok(index)
 }
 
-fn push_borrow(scope: &mut TypeScope, types: &Types, id: ResourceId) -> Result<Written, WriteError>
+/// The index of such a handle: of a new entry, or of a type with a name that is equal, where the resource does not stand.
+fn borrow_index(
+    alloc: Global,
+    scope: &mut TypeScope,
+    types: &Types,
+    id: ResourceId,
+) -> Result<u64, WriteError>
+    requires { Stands types.now (ItemKind.Value (ValueType.Borrow id)) }
+    ensures writes { WritesIndex types.now
+        (tree_in types.now (ItemKind.Value (ValueType.Borrow id))) scope.old scope.new result }
+    ensures refused { IfErr result (Refused types.now (ItemKind.Value (ValueType.Borrow id)) scope.old scope.new) }
+    ensures known { OnOk result (KeepsKnown scope.old.known.all.items scope.new.known.all.items) }
+    ensures resources { scope.new.resources ≡ scope.old.resources }
+{
+    types.see_acyclic();
+    match resource_of(scope, types, id) {
+        Ok(resource) => Ok(scope.define(TypeEntry::Borrow(resource))?),
+        Err(_) => equal_handle(alloc, scope, types, ValueType::Borrow(id)),
+    }
+}
+
+fn push_borrow(
+    alloc: Global,
+    scope: &mut TypeScope,
+    types: &Types,
+    id: ResourceId,
+) -> Result<Written, WriteError>
     requires { Stands types.now (ItemKind.Value (ValueType.Borrow id)) }
     ensures writes { WritesValue types.now
         (tree_in types.now (ItemKind.Value (ValueType.Borrow id))) scope.old scope.new result }
     ensures refused { IfErr result (Refused types.now (ItemKind.Value (ValueType.Borrow id)) scope.old scope.new) }
-    ensures known { scope.new.known ≡ scope.old.known }
+    ensures known { OnOk result (KeepsKnown scope.old.known.all.items scope.new.known.all.items) }
     ensures resources { scope.new.resources ≡ scope.old.resources }
 {
-    let index = define_borrow(scope, types, id)?;
+    let index = borrow_index(alloc, scope, types, id)?;
     Ok(Written::Index(index))
 }
 
@@ -141,8 +192,8 @@ fn push_resolved(
     types.see_acyclic();
     match ty {
         ValueType::Primitive(p) => Ok(Written::Primitive(p)),
-        ValueType::Own(id) => push_own(scope, types, id),
-        ValueType::Borrow(id) => push_borrow(scope, types, id),
+        ValueType::Own(id) => push_own(alloc, scope, types, id),
+        ValueType::Borrow(id) => push_borrow(alloc, scope, types, id),
         ValueType::Defined(id) => push_defined(alloc, scope, types, id),
     }
 }
@@ -175,11 +226,11 @@ pub fn fits_in(alloc: Global, types: &Types, a: ItemKind, b: ItemKind) -> Result
 fn place_of(
     scope: &mut TypeScope,
     types: &Types,
-    id: DefinedTypeId,
+    ty: ValueType,
 ) -> Result<Option<usize>, WriteError>
-    requires { Stands types.now (ItemKind.Value (ValueType.Defined id)) }
+    requires { Stands types.now (ItemKind.Value ty) }
     ensures keeps { KeepsScope types.now scope.old scope.new }
-    ensures none { IfOk result (FindsTree types.now scope.old id) }
+    ensures none { IfOk result (FindsTree types.now scope.old ty) }
     ensures refused { IfErr result (λ e. e ≡ WriteError.Memory) }
     ensures known { scope.new.known.all ≡ scope.old.known.all }
     ensures resources { scope.new.resources ≡ scope.old.resources }
@@ -187,7 +238,7 @@ fn place_of(
     if scope.known.places.by_print.is_empty() {
         return Ok(None);
     }
-    let print = scope.known.places.prints.of(types, ValueType::Defined(id))?;
+    let print = scope.known.places.prints.of(types, ty)?;
     Ok(scope.known.places.place_of_print(print))
 }
 
@@ -196,12 +247,13 @@ fn equal_at(
     alloc: Global,
     scope: &TypeScope,
     types: &Types,
-    id: DefinedTypeId,
+    ty: ValueType,
     at: usize,
 ) -> Result<Option<u64>, WriteError>
-    requires { Stands types.now (ItemKind.Value (ValueType.Defined id)) }
-    ensures reads { IfOk result (λ o. FindsType types.now scope.now id o) }
-    ensures none { IfOk result (λ o. IfNone o (DiffersAt types.now scope.now.known.all.items (type_tree types.now id) at)) }
+    requires { Stands types.now (ItemKind.Value ty) }
+    ensures reads { IfOk result (λ o. FindsValue types.now scope.now ty o) }
+    ensures none { IfOk result
+        (λ o. IfNone o (DiffersAt types.now scope.now.known.all.items (tree_in types.now (ItemKind.Value ty)) at)) }
     ensures refused { IfErr result (λ e. e ≡ WriteError.Memory) }
 {
     types.see_acyclic();
@@ -209,8 +261,7 @@ fn equal_at(
         return Ok(None);
     };
     let own = ItemKind::Value(ValueType::Defined(other.id));
-    let kind = ItemKind::Value(ValueType::Defined(id));
-    let equal = fits_in(alloc, types, own, kind)?;
+    let equal = fits_in(alloc, types, own, ItemKind::Value(ty))?;
     if equal {
         Ok(Some(other.index))
     } else {
@@ -223,15 +274,15 @@ fn equal_among(
     alloc: Global,
     scope: &TypeScope,
     types: &Types,
-    id: DefinedTypeId,
+    ty: ValueType,
 ) -> Result<Option<u64>, WriteError>
-    requires { Stands types.now (ItemKind.Value (ValueType.Defined id)) }
-    ensures reads { IfOk result (λ o. FindsType types.now scope.now id o) }
-    ensures none { IfOk result (FindsTree types.now scope.now id) }
+    requires { Stands types.now (ItemKind.Value ty) }
+    ensures reads { IfOk result (λ o. FindsValue types.now scope.now ty o) }
+    ensures none { IfOk result (FindsTree types.now scope.now ty) }
     ensures refused { IfErr result (λ e. e ≡ WriteError.Memory) }
 {
     for at in 0..scope.known.all.len() {
-        let found = equal_at(alloc, scope, types, id, at)?;
+        let found = equal_at(alloc, scope, types, ty, at)?;
         if found.is_some() {
             return Ok(found);
         }
@@ -245,25 +296,45 @@ fn equal_index(
     alloc: Global,
     scope: &mut TypeScope,
     types: &Types,
-    id: DefinedTypeId,
+    ty: ValueType,
 ) -> Result<Option<u64>, WriteError>
-    requires { Stands types.now (ItemKind.Value (ValueType.Defined id)) }
+    requires { Stands types.now (ItemKind.Value ty) }
     ensures keeps { KeepsScope types.now scope.old scope.new }
-    ensures reads { IfOk result (λ o. FindsType types.now scope.old id o) }
-    ensures none { IfOk result (FindsTree types.now scope.old id) }
+    ensures reads { IfOk result (λ o. FindsValue types.now scope.old ty o) }
+    ensures none { IfOk result (FindsTree types.now scope.old ty) }
     ensures refused { IfErr result (λ e. e ≡ WriteError.Memory) }
     ensures known { scope.new.known.all ≡ scope.old.known.all }
     ensures resources { scope.new.resources ≡ scope.old.resources }
 {
-    let Some(at) = place_of(scope, types, id)? else {
+    let Some(at) = place_of(scope, types, ty)? else {
         return Ok(None);
     };
-    let found = equal_at(alloc, scope, types, id, at)?;
+    let found = equal_at(alloc, scope, types, ty, at)?;
     if found.is_some() {
         return Ok(found);
     }
-    let found = equal_among(alloc, scope, types, id)?;
+    let found = equal_among(alloc, scope, types, ty)?;
     Ok(found)
+}
+
+/// The index of a type with a name that is equal to a handle.
+fn equal_handle(
+    alloc: Global,
+    scope: &mut TypeScope,
+    types: &Types,
+    ty: ValueType,
+) -> Result<u64, WriteError>
+    requires { Stands types.now (ItemKind.Value ty) }
+    ensures writes { WritesIndex types.now (tree_in types.now (ItemKind.Value ty)) scope.old scope.new result }
+    ensures none { IfErr result (LacksTree types.now scope.old ty) }
+    ensures known { scope.new.known.all ≡ scope.old.known.all }
+    ensures resources { scope.new.resources ≡ scope.old.resources }
+{
+    let found = equal_index(alloc, scope, types, ty)?;
+    match found {
+        Some(index) => Ok(index),
+        None => Err(WriteError::Unwritable),
+    }
 }
 
 /// The index of a type with a name that is equal, if the type cannot be written anew: a handle in it is of a resource
@@ -282,7 +353,7 @@ fn needed_index(
     ensures known { scope.new.known.all ≡ scope.old.known.all }
     ensures resources { scope.new.resources ≡ scope.old.resources }
 {
-    let found = equal_index(alloc, scope, types, id)?;
+    let found = equal_index(alloc, scope, types, ValueType::Defined(id))?;
     match found {
         Some(index) => {
             let lacks = lacks_resource(alloc, scope, types, id)?;
@@ -320,7 +391,7 @@ fn equal_or_needed(
     ensures resources { scope.new.resources ≡ scope.old.resources }
 {
     if by_name {
-        equal_index(alloc, scope, types, id)
+        equal_index(alloc, scope, types, ValueType::Defined(id))
     } else {
         needed_index(alloc, scope, types, id)
     }
@@ -453,11 +524,13 @@ pub(crate) fn define_value(
         ValueType::Defined(id) => {
             define_once(alloc, scope, types, id, ty == ValueType::Defined(id))
         }
-        end => define_plain(alloc, scope, types, end),
+        ValueType::Own(id) => own_index(alloc, scope, types, id),
+        ValueType::Borrow(id) => borrow_index(alloc, scope, types, id),
+        ValueType::Primitive(p) => Ok(scope.define(TypeEntry::Primitive(p))?),
     }
 }
 
-/// The index of a type entry that is a value type, written as any other.
+/// The index of a type entry of its own that is a value type which is no alias.
 fn define_plain(
     alloc: Global,
     scope: &mut TypeScope,

@@ -10,7 +10,6 @@ use Rattle.wac_types_base.specs.Tree.{instance}
 use Rattle.wac_types_base.proofs.Walking.{slice_get-Among}
 use Rattle.wac_types_base.proofs.Looked.{among-get}
 use Rattle.wac_types_names.specs.Keys.{Key}
-use Rattle.wac_graph_encode.specs.declared.options.EncodeOptions.{EncodeOptions}
 use Rattle.wac_graph_bytes.specs.Typing.{Worlds}
 use Rattle.wac_graph_bytes.specs.Wirings.{Instantiation, OfBytes, Same, Wiring}
 use Rattle.wac_nesting.specs.Given.{IsBound, IsTrueWorld, World}
@@ -150,11 +149,11 @@ same_document source d e x y = same_ok _ _ (sym x ∙ y)
     same_ok a b e = cc e
 
 -- what the bytes of a composed source mean
-said_of : (options : EncodeOptions) (es : List Entry) (source : List ℕ) (bytes : List ℕ) (d : Document) (s : State) (target : Option Stated) → IsDocument source d → resolved d (handed es) ≡ Ok (s, target) → options.define_components ≡ true
-    → MeansSource options (handed es) source bytes → MeansAscribed s bytes
+said_of : (es : List Entry) (source : List ℕ) (bytes : List ℕ) (d : Document) (s : State) (target : Option Stated) → IsDocument source d → resolved d (handed es) ≡ Ok (s, target)
+    → MeansSource true (handed es) source bytes → MeansAscribed s bytes
 unfolding MeansSource AreAscribedBytes
-said_of options es source bytes d s target document resolves define means =
-    let m : IsMeantBy (handed es) source bytes = means define in
+said_of es source bytes d s target document resolves means =
+    let m : IsMeantBy (handed es) source bytes = means refl in
     let same = same_document source m.tree d m.read document in
     subst (λ q. AreAscribedBytes q bytes) (ap (λ e. resolved e (handed es)) same ∙ resolves) m.meant.ascribed
 
@@ -196,12 +195,12 @@ one_call old new packages s zip (hands_in m none adds) = record {
   step = new_there old.packages packages zip m.bytes none;
   entries = more_entries old.packages new.packages packages m true _ zip adds refl refl (λ l. refl);
 }
-one_call old new packages step zip (composes source options o d s target define document resolves composed means) =
+one_call old new packages step zip (composes source o d s target document resolves composed) =
     let world = world_of old.packages source old.next true o d s target document resolves composed.output in
     let kept = composed.kept in
     record {
       step = composes_so old.packages packages zip d s target resolves world.met o.bytes.items (world_in o.types o.world) (λ h. kept.bytes (handed_there old.packages packages zip o.bytes.items h)) (ap maps_of world.states.states)
-          (said_of options old.packages source o.bytes.items d s target document resolves define means);
+          (said_of old.packages source o.bytes.items d s target document resolves composed.means);
       entries = more_entries old.packages new.packages packages (output_parts o) false _ zip kept.added refl refl (λ l. absurd l);
     }
 one_call old new packages s zip (keeps same) = record { step = tt; entries = subst (λ es. AreEntries es packages) (sym same) zip }

@@ -14,7 +14,6 @@ use Rattle.wac_nesting.specs.Laws.{IsAsAscribed}
 use Rattle.wac_composition.specs.Composition.{Composition, Made}
 use Rattle.wac_composition.specs.Sound.{maps_of}
 use Rattle.wac_composition.specs.Wired.{composed_wiring}
-use Rattle.wac_graph_encode.specs.declared.options.EncodeOptions.{EncodeOptions}
 use Rattle.wac_parser_tree.specs.Trees.{Document}
 use Rattle.wac_parser_resolve.specs.Ascribing.{State}
 use Rattle.wac_parser_resolve.specs.Ascribed.{Asker, composition}
@@ -23,7 +22,7 @@ use Rattle.wac_parser_ascribed.specs.Tied.{handed_tag}
 use Rattle.wac_workspace.specs.declared.entries.Entry.{Entry}
 use Rattle.wac_workspace.specs.declared.output.Output.{Output}
 use Rattle.wac_workspace.specs.Packages.{AddsPackage, HasBytes, Held, PackageParts, key_of}
-use Rattle.wac_workspace.specs.Composing.{ComposesSource, IsDocument, MeansSource}
+use Rattle.wac_workspace.specs.Composing.{ComposesSource, IsDocument}
 use Rattle.wac_workspace.specs.Resolving.{handed}
 
 -- what a world of a collection imports and exports
@@ -53,11 +52,10 @@ pub data IsCall (old new : Held) : Step → Type 0 where
   -- a component is handed in: none that stands has its bytes
   hands_in : (m : PackageParts) → (HasBytes old.packages m.bytes → ⊥) → AddsPackage old.packages new.packages true m
       → IsCall old new (Add m.bytes (world_in m.types m.world))
-  -- a source is composed with its packages nested, and its output is registered: the source is a document that says this over
-  -- the packages
-  composes : (source : List ℕ) (options : EncodeOptions) (o : Output) (d : Document) (s : State) (target : Option Stated)
-      → options.define_components ≡ true → IsDocument source d → resolved d (handed old.packages) ≡ Ok (s, target)
-      → ComposesSource old new source true o → MeansSource options (handed old.packages) source o.bytes.items
+  -- A source is composed with its packages nested, and its output is registered, by `compose`, by `compose_stream` or in a run:
+  -- the source is a document that says this over the packages.
+  composes : (source : List ℕ) (o : Output) (d : Document) (s : State) (target : Option Stated)
+      → IsDocument source d → resolved d (handed old.packages) ≡ Ok (s, target) → ComposesSource old new source true o
       → IsCall old new (Compose o.bytes.items (world_in o.types o.world) (ascribed_over old.packages (composition s)))
   -- a refusal, or an output that is not registered
   keeps : new.packages ≡ old.packages → IsCall old new Other

@@ -47,6 +47,10 @@ pub mod laws {
         documents_have_forms, faults_stand, forms_are_taken, parsed_paths_stand, rules_are_exact,
         rules_have_forms, rules_take_what_fits, trees_are_begun,
     };
+    pub use wac_parser_lexer::{
+        items_in_order, longest_token, only_longest_token, pieces_of_sources,
+        unexpected_is_one_character,
+    };
     pub use wac_parser_print::examples as printed_examples;
     pub use wac_parser_read::{
         list_faults_stand, lists_are_exact, optional_faults_stand, optionals_are_exact,

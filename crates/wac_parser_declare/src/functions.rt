@@ -157,9 +157,9 @@ fn result_type<T: GrowingTypes>(
 }
 
 /// The function type of these parameters and results.
-pub(crate) fn function<T: GrowingTypes>(
-    params: &Vec<ast::NamedType<'_>>,
-    results: &ResultList<'_>,
+pub(crate) fn function<'t, 's, T: GrowingTypes>(
+    params: &'t Vec<ast::NamedType<'s>>,
+    results: &'t ResultList<'s>,
     alloc: Global,
     names: &NamedMap<Binding>,
     types: &mut T,

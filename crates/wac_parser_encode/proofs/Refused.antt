@@ -23,7 +23,7 @@ use Rattle.wac_graph_causes.specs.declared.errors.ValidationFault.{ValidationFau
 use Rattle.wac_graph_causes.specs.Implicit.{IsKeyOf}
 use Rattle.wac_graph_encode.specs.declared.options.EncodeOptions.{EncodeOptions}
 use Rattle.wac_graph_encode.specs.Refused as graph
-use Rattle.wac_graph_encode.specs.Refused.{cause_in, HasLargeProcessor, IsErrorFor, IsFree}
+use Rattle.wac_graph_encode.specs.Refused.{HasLargeProcessor, HasNoCause as HasNone, IsErrorFor, IsFree}
 use Rattle.wac_parser_refusals.specs.declared.error.Error.{Error}
 use Rattle.wac_parser_refusals.specs.Causes.{Fault}
 use Rattle.wac_parser_refusals.specs.Views.{cause_of}
@@ -38,7 +38,7 @@ use Rattle.wac_parser_resolve.specs.InDocuments.{IsBuilt}
 use Rattle.wac_parser_encode.specs.Processing.{HasProcessor, IsProcessed}
 use Rattle.wac_parser_encode.specs.Sizes.{IsPastSize}
 use Rattle.wac_parser_encode.proofs.Meaning.{entries_said, imports_stated, names_of_graph}
-use Rattle.wac_parser_encode.specs.Refused.{CanBeEncoded, IsFirst, IsOfSize, AreFirstAlike, TellsCause, RefusesResolved, TellsFirst, TellsAnywhere, fault_in}
+use Rattle.wac_parser_encode.specs.Refused.{CanBeEncoded, HasNoFirst, IsFirst, IsOfSize, AreFirstAlike, TellsCause, RefusesResolved, TellsFirst, TellsAnywhere, fault_in}
 
 -- ---- places of askers
 
@@ -126,6 +126,9 @@ module _ (options : EncodeOptions) (g : Graph) (at : Places) (s : State) (tied :
   alike_told : (x : cause.Cause ℕ) → name_cause options.define_components options.validate (composition_of g) ≡ Some x → AreFirstAlike options s (cause_said (cause_renamed tied.asker x))
   alike_told x e = ap (option_map cause_said) (tied.names options.define_components options.validate ∙ ap (option_map (cause_renamed tied.asker)) e)
 
+  none_told : HasNone options g → HasNoFirst options.define_components s
+  none_told e = tied.cause options.define_components ∙ ap (option_map (cause_renamed tied.asker)) e
+
   too_large_told : (HasLargeProcessor options ⊎ graph.IsPastSize options g) → IsOfSize options s (record { fault = Fault.TooLarge; span = None })
   too_large_told (inl large) = (inl large, refl)
   too_large_told (inr of) = (inr (past of), refl)
@@ -135,9 +138,9 @@ module _ (options : EncodeOptions) (g : Graph) (at : Places) (s : State) (tied :
   told (EncodeError.ExplicitImportConflict n first second) h = explicit_told (string_bytes n) first second h
   told (EncodeError.ImportTypeMergeConflict n first second source) h = merge_failed (string_bytes n) first second h
   told (EncodeError.TypeCannotBeWritten n) h = said (cause.Unwritable (string_bytes n)) h
-  told EncodeError.TooLarge h = too_large_told h
-  told (EncodeError.ValidationFailure (ValidationFault.ImportNames m n)) h = alike_told (cause.ImportNames (string_bytes m) (string_bytes n)) h
-  told (EncodeError.ValidationFailure (ValidationFault.ExportNames m n)) h = alike_told (cause.ExportNames (string_bytes m) (string_bytes n)) h
+  told EncodeError.TooLarge h = (none_told h.0, too_large_told h.1)
+  told (EncodeError.ValidationFailure (ValidationFault.ImportNames m n)) h = (none_told h.0, alike_told (cause.ImportNames (string_bytes m) (string_bytes n)) h.1)
+  told (EncodeError.ValidationFailure (ValidationFault.ExportNames m n)) h = (none_told h.0, alike_told (cause.ExportNames (string_bytes m) (string_bytes n)) h.1)
   told (EncodeError.GraphContainsCycle node) h = absurd h
   told EncodeError.Memory h = tt
 
@@ -169,9 +172,9 @@ processed g old new e is h = by e (subst (λ (b : Bool). IsErrorFor (record new 
     by (EncodeError.ExplicitImportConflict n first second) h = h
     by (EncodeError.ImportTypeMergeConflict n first second source) h = h
     by (EncodeError.TypeCannotBeWritten n) h = h
-    by EncodeError.TooLarge (inl large) = inl (large_processor old new is large)
-    by EncodeError.TooLarge (inr past) = inr (record { nested = past.nested; imported = λ define names alike. past.imported define names ((λ j. name_cause old.define_components (is.validate j) (composition_of g)) ∙ alike) })
-    by (EncodeError.ValidationFailure fault) h = (λ j. name_cause old.define_components (sym is.validate j) (composition_of g)) ∙ h
+    by EncodeError.TooLarge (none, inl large) = (none, inl (large_processor old new is large))
+    by EncodeError.TooLarge (none, inr past) = (none, inr (record { nested = past.nested; imported = λ define names alike. past.imported define names ((λ j. name_cause old.define_components (is.validate j) (composition_of g)) ∙ alike) }))
+    by (EncodeError.ValidationFailure fault) h = (h.0, (λ j. name_cause old.define_components (sym is.validate j) (composition_of g)) ∙ h.1)
     by (EncodeError.GraphContainsCycle node) h = absurd h
     by EncodeError.Memory h = tt
 

@@ -47,7 +47,11 @@ fault_in at EncodeError.Memory = None
 -- ---- what it says
 
 module _ (define : Bool) (s : State) where
-  -- this is the first cause that stands against what is said
+  -- no cause stands against what is said
+  abbrev pub HasNoFirst : Type 0
+  HasNoFirst = first_cause define (composition s) ≡ None
+
+  -- this is the first cause that stands against it
   abbrev pub IsFirst : Cause → Type 0
   IsFirst c = option_map cause_said (first_cause define (composition s)) ≡ Some c
 
@@ -61,11 +65,12 @@ module _ (options : EncodeOptions) (s : State) where
   AreFirstAlike c = option_map cause_said (name_cause options.define_components options.validate (composition s)) ≡ Some c
 
   abbrev pub IsToldFault : Fault → Cause → Type 0
-  IsToldFault (Fault.ValidationFailure kind m n) c = AreFirstAlike c
-  IsToldFault Fault.TooLarge c = IsOfSize options s c
+  IsToldFault (Fault.ValidationFailure kind m n) c = HasNoFirst options.define_components s × AreFirstAlike c
+  IsToldFault Fault.TooLarge c = HasNoFirst options.define_components s × IsOfSize options s c
   IsToldFault f c = IsFirst options.define_components s c
 
-  -- it is the first cause, with its fields and its place; want of memory may always be answered
+  -- it is the first cause, with its fields and its place; where none stands, the size, or names that are alike; want of memory
+  -- may always be answered
   abbrev pub TellsCause : Option Cause → Type 0
   TellsCause None = Unit {0}
   TellsCause (Some c) = IsToldFault c.fault c
@@ -90,7 +95,7 @@ RefusesResolved g at options e = TellsFirst g options at (cause_of e)
 
 -- no cause stands against encoding what is said, and no names are alike
 pub record HasNoCause (define validate : Bool) (s : State) : Type 0 where
-  pub cause : first_cause define (composition s) ≡ None
+  pub cause : HasNoFirst define s
   pub alike : name_cause define validate (composition s) ≡ None
 
 -- so it is of what each document says that the graph holds

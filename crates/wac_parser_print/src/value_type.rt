@@ -33,8 +33,8 @@ impl<W: ByteSink + Drop> DocumentPrinter<'_, W> {
             Type::Bool(_) => self.word("bool"),
             Type::String(_) => self.word("string"),
             Type::Tuple(types, _) => self.add_tuple(types),
-            Type::List(ty, _) => self.add_enclosed("list<", ty),
-            Type::Option(ty, _) => self.add_enclosed("option<", ty),
+            Type::List(ty, _) => self.add_enclosed(ty, "list<"),
+            Type::Option(ty, _) => self.add_enclosed(ty, "option<"),
             Type::Result { ok: None, err, .. } => self.add_without_success(err),
             Type::Result {
                 ok: Some(ok),
@@ -47,9 +47,9 @@ impl<W: ByteSink + Drop> DocumentPrinter<'_, W> {
             }
             Type::Borrow(id, _) => self.add_borrow(id),
             Type::Stream(None, _) => self.word("stream"),
-            Type::Stream(Some(ty), _) => self.add_enclosed("stream<", ty),
+            Type::Stream(Some(ty), _) => self.add_enclosed(ty, "stream<"),
             Type::Future(None, _) => self.word("future"),
-            Type::Future(Some(ty), _) => self.add_enclosed("future<", ty),
+            Type::Future(Some(ty), _) => self.add_enclosed(ty, "future<"),
             Type::ErrorContext(_) => self.word("error-context"),
             Type::Ident(id) => self.slice(id.span),
         }
@@ -57,7 +57,7 @@ impl<W: ByteSink + Drop> DocumentPrinter<'_, W> {
 
     /// Adds a type behind an opening and before `>`.
     #[cycle(ty)]
-    fn add_enclosed(&mut self, opening: &str, ty: &Type<'_>)
+    fn add_enclosed(&mut self, ty: &Type<'_>, opening: &str)
         ensures { Adds self.old (enclosed opening.now (text.ty (view_ty ty.now))) self.new }
     {
         self.word(opening);
@@ -71,7 +71,7 @@ impl<W: ByteSink + Drop> DocumentPrinter<'_, W> {
         ensures { Adds self.old (result_of None (text.payload (maybe_ty (option_map view_boxed_ty err.now)))) self.new }
     {
         match err {
-            Some(err) => self.add_enclosed("result<_, ", err),
+            Some(err) => self.add_enclosed(err, "result<_, "),
             None => self.word("result"),
         }
     }
@@ -82,7 +82,7 @@ impl<W: ByteSink + Drop> DocumentPrinter<'_, W> {
         ensures { Adds self.old (behind_success (text.payload (maybe_ty (option_map view_boxed_ty err.now)))) self.new }
     {
         match err {
-            Some(err) => self.add_enclosed(", ", err),
+            Some(err) => self.add_enclosed(err, ", "),
             None => self.word(">"),
         }
     }

@@ -4,10 +4,8 @@ ghost use Rattle.std.specs.Prelude.{◌≡◌};
 ghost use Rattle.wac_parser_refusals.specs.Causes.{span_of};
 ghost use Rattle.wac_parser_refusals.specs.Views.{cause_of};
 
-use crate::texts::{ForInterface, InPath};
 use std::alloc::{AllocError, AllocFailed};
 use std::fmt;
-use thiserror::Error;
 use wac_names::NameError;
 use wac_parser_lexer::SourceSpan;
 use wac_types_base::{ExternKind, FuncKind};
@@ -40,10 +38,9 @@ impl fmt::Display for InstanceOperation {
 }
 
 /// Why a document is refused, with the place of the fault.
-#[derive(Debug, Drop, Error)]
+#[derive(Debug, Drop)]
 pub enum Error {
     /// An undefined name was met.
-    #[error("undefined name `{name}`")]
     UndefinedName {
         /// The name.
         name: String,
@@ -51,7 +48,6 @@ pub enum Error {
         span: SourceSpan,
     },
     /// A name is defined twice.
-    #[error("`{name}` is already defined")]
     DuplicateName {
         /// The name.
         name: String,
@@ -61,7 +57,6 @@ pub enum Error {
         previous: SourceSpan,
     },
     /// A package is unknown.
-    #[error("unknown package `{name}`")]
     UnknownPackage {
         /// The name.
         name: String,
@@ -69,7 +64,6 @@ pub enum Error {
         span: SourceSpan,
     },
     /// A package, or an item in it, lacks an export.
-    #[error("{}package `{package}` has no export named `{export}`", InPath(.kind, .path))]
     PackageMissingExport {
         /// The package.
         package: String,
@@ -83,7 +77,6 @@ pub enum Error {
         span: SourceSpan,
     },
     /// An item of the document's own package lacks an export.
-    #[error("`{name}` ({kind}) has no export named `{export}`")]
     PackagePathMissingExport {
         /// The name.
         name: String,
@@ -95,7 +88,6 @@ pub enum Error {
         span: SourceSpan,
     },
     /// A component lacks an import.
-    #[error("component `{package}` has no import named `{import}`")]
     MissingComponentImport {
         /// The package.
         package: String,
@@ -105,7 +97,6 @@ pub enum Error {
         span: SourceSpan,
     },
     /// An argument does not fit its import.
-    #[error("mismatched instantiation argument `{name}`")]
     MismatchedInstantiationArg {
         /// The name.
         name: String,
@@ -115,7 +106,6 @@ pub enum Error {
         source: SubtypeError,
     },
     /// An argument is given twice.
-    #[error("duplicate instantiation argument `{name}`")]
     DuplicateInstantiationArg {
         /// The name.
         name: String,
@@ -123,7 +113,6 @@ pub enum Error {
         span: SourceSpan,
     },
     /// An argument is missing.
-    #[error("missing instantiation argument `{name}` for package `{package}`")]
     MissingInstantiationArg {
         /// The name.
         name: String,
@@ -133,7 +122,6 @@ pub enum Error {
         span: SourceSpan,
     },
     /// An import has the name of one that an instantiation asks for.
-    #[error("import `{name}` conflicts with an item that was implicitly imported by an instantiation of `{package}`")]
     ImportConflict {
         /// The name.
         name: String,
@@ -145,7 +133,6 @@ pub enum Error {
         import: SourceSpan,
     },
     /// An import does not merge with an earlier one.
-    #[error("import `{name}` does not merge with an earlier import")]
     ExplicitImportConflict {
         /// The name.
         name: String,
@@ -155,7 +142,6 @@ pub enum Error {
         previous: SourceSpan,
     },
     /// What is asked under one name does not merge.
-    #[error("failed to merge the type definition for implicit import `{name}` due to conflicting types")]
     InstantiationArgMergeFailure {
         /// The name.
         name: String,
@@ -167,7 +153,6 @@ pub enum Error {
         source: AggregateError,
     },
     /// An operation asks for an instance.
-    #[error("an instance is required to perform {operation}")]
     NotAnInstance {
         /// What it is.
         kind: &'static str,
@@ -177,7 +162,6 @@ pub enum Error {
         span: SourceSpan,
     },
     /// An instance lacks an export.
-    #[error("the instance has no export named `{name}`")]
     MissingInstanceExport {
         /// The name.
         name: String,
@@ -185,13 +169,11 @@ pub enum Error {
         span: SourceSpan,
     },
     /// The name of an export cannot be inferred.
-    #[error("export statement requires an `as` clause as the export name cannot be inferred")]
     ExportRequiresAs {
         /// Where the fault stands.
         span: SourceSpan,
     },
     /// A declaration has the name of an export.
-    #[error("type declaration `{name}` conflicts with a previous export of the same name")]
     DeclarationConflict {
         /// The name.
         name: String,
@@ -201,7 +183,6 @@ pub enum Error {
         export: SourceSpan,
     },
     /// An export has the name of a definition.
-    #[error("export `{name}` conflicts with {kind} definition")]
     ExportConflict {
         /// The name.
         name: String,
@@ -215,7 +196,6 @@ pub enum Error {
         help: Option<&'static str>,
     },
     /// An import or an export is there already.
-    #[error("duplicate {kind} `{name}`")]
     DuplicateExternName {
         /// The name.
         name: String,
@@ -229,7 +209,6 @@ pub enum Error {
         help: Option<&'static str>,
     },
     /// The name of an import or an export is not valid.
-    #[error("{kind} name `{name}` is not valid")]
     InvalidExternName {
         /// The name.
         name: String,
@@ -241,7 +220,6 @@ pub enum Error {
         source: NameError,
     },
     /// A type that is used has the name of another item.
-    #[error("use of type `{name}` conflicts with an {kind} of the same name")]
     UseConflict {
         /// The name.
         name: String,
@@ -253,25 +231,21 @@ pub enum Error {
         help: Option<&'static str>,
     },
     /// The argument `...` does not stand last.
-    #[error("implicit import argument `...` must be the last argument")]
     FillArgumentNotLast {
         /// Where the fault stands.
         span: SourceSpan,
     },
     /// A spread argument has nothing that is still asked.
-    #[error("the instance has no matching exports for the remaining unsatisfied arguments")]
     SpreadInstantiationNoMatch {
         /// Where the fault stands.
         span: SourceSpan,
     },
     /// A spread export has nothing to export.
-    #[error("instance has no exports or all exports of the instance match previously exported names")]
     SpreadExportNoEffect {
         /// Where the fault stands.
         span: SourceSpan,
     },
     /// An import is not in the target world.
-    #[error("target world `{world}` does not have an import named `{name}`")]
     ImportNotInTarget {
         /// The name.
         name: String,
@@ -281,7 +255,6 @@ pub enum Error {
         span: Option<SourceSpan>,
     },
     /// An export of the target world is missing.
-    #[error("target world `{world}` requires an export named `{name}`")]
     MissingTargetExport {
         /// The name.
         name: String,
@@ -293,7 +266,6 @@ pub enum Error {
         span: SourceSpan,
     },
     /// An item has another type than in the target world.
-    #[error("{kind} `{name}` has a mismatched type for target world `{world}`")]
     TargetMismatch {
         /// What it is.
         kind: ExternKind,
@@ -307,7 +279,6 @@ pub enum Error {
         source: SubtypeError,
     },
     /// Two names of imports, or of exports, are too much alike.
-    #[error("the encoding of the graph failed validation")]
     ValidationFailure {
         /// What it is.
         kind: ExternKind,
@@ -317,16 +288,13 @@ pub enum Error {
         second: String,
     },
     /// A type has no written form.
-    #[error("a type of `{name}` cannot be written")]
     TypeCannotBeWritten {
         /// The name.
         name: String,
     },
     /// A count, an index or a size is too large.
-    #[error("the component is too large")]
     TooLarge,
     /// A name is not one of a function type or an interface.
-    #[error("`{name}` ({kind}) is not a function type or interface")]
     NotFuncOrInterface {
         /// The name.
         name: String,
@@ -336,7 +304,6 @@ pub enum Error {
         span: SourceSpan,
     },
     /// A name or a path is not one of an interface.
-    #[error("`{name}` ({kind}) is not an interface")]
     NotInterface {
         /// The name.
         name: String,
@@ -346,7 +313,6 @@ pub enum Error {
         span: SourceSpan,
     },
     /// A name or a path is not one of a world.
-    #[error("`{name}` ({kind}) is not a world")]
     NotWorld {
         /// The name.
         name: String,
@@ -356,7 +322,6 @@ pub enum Error {
         span: SourceSpan,
     },
     /// A name is not one of a function type.
-    #[error("`{name}` ({kind}) is not a function type")]
     NotFuncType {
         /// The name.
         name: String,
@@ -366,7 +331,6 @@ pub enum Error {
         span: SourceSpan,
     },
     /// A name is not one of a resource.
-    #[error("`{name}` ({kind}) is not a resource type")]
     NotResourceType {
         /// The name.
         name: String,
@@ -376,7 +340,6 @@ pub enum Error {
         span: SourceSpan,
     },
     /// A name is not one of a value type.
-    #[error("`{name}` ({kind}) cannot be used as a value type")]
     NotValueType {
         /// The name.
         name: String,
@@ -386,7 +349,6 @@ pub enum Error {
         span: SourceSpan,
     },
     /// A name is not one of what can be aliased.
-    #[error("`{name}` ({kind}) cannot be used in a type alias")]
     InvalidAliasType {
         /// The name.
         name: String,
@@ -396,7 +358,6 @@ pub enum Error {
         span: SourceSpan,
     },
     /// An interface lacks a type that is used.
-    #[error("a type named `{name}` is not defined in interface `{interface_name}`")]
     UndefinedInterfaceType {
         /// The name.
         name: String,
@@ -406,7 +367,6 @@ pub enum Error {
         span: SourceSpan,
     },
     /// What is used of an interface is no value type.
-    #[error("`{name}` ({kind}) is not a value type in interface `{interface_name}`")]
     NotInterfaceValueType {
         /// The name.
         name: String,
@@ -418,7 +378,6 @@ pub enum Error {
         span: SourceSpan,
     },
     /// An interface has two exports of one name.
-    #[error("duplicate interface export `{name}`{}", ForInterface(.interface_name))]
     DuplicateInterfaceExport {
         /// The name.
         name: String,
@@ -428,7 +387,6 @@ pub enum Error {
         span: SourceSpan,
     },
     /// A world has two imports, or two exports, of one name.
-    #[error("{kind} `{name}` conflicts with existing {kind} of the same name in world `{world}`")]
     DuplicateWorldItem {
         /// What it is.
         kind: ExternKind,
@@ -440,7 +398,6 @@ pub enum Error {
         span: SourceSpan,
     },
     /// A name stands twice in a `with` clause.
-    #[error("duplicate `{name}` in world include `with` clause")]
     DuplicateWorldIncludeName {
         /// The name.
         name: String,
@@ -448,7 +405,6 @@ pub enum Error {
         span: SourceSpan,
     },
     /// A world lacks a name of a `with` clause.
-    #[error("world `{world}` does not have an import or export named `{name}`")]
     MissingWorldInclude {
         /// The world.
         world: String,
@@ -458,7 +414,6 @@ pub enum Error {
         span: SourceSpan,
     },
     /// An item of a world that is included is there already.
-    #[error("{kind} `{name}` from world `{from}` conflicts with {kind} of the same name in world `{to}`")]
     WorldIncludeConflict {
         /// What it is.
         kind: ExternKind,
@@ -474,7 +429,6 @@ pub enum Error {
         help: Option<&'static str>,
     },
     /// A resource has two constructors.
-    #[error("duplicate constructor for resource `{resource}`")]
     DuplicateResourceConstructor {
         /// The resource.
         resource: String,
@@ -482,7 +436,6 @@ pub enum Error {
         span: SourceSpan,
     },
     /// A resource has two methods of one name.
-    #[error("duplicate method `{name}` for resource `{resource}`")]
     DuplicateResourceMethod {
         /// The name.
         name: String,
@@ -492,7 +445,6 @@ pub enum Error {
         span: SourceSpan,
     },
     /// A variant has two cases of one name.
-    #[error("duplicate case `{case}` for variant type `{name}`")]
     DuplicateVariantCase {
         /// The case.
         case: String,
@@ -502,7 +454,6 @@ pub enum Error {
         span: SourceSpan,
     },
     /// A record has two fields of one name.
-    #[error("duplicate field `{field}` for record type `{name}`")]
     DuplicateRecordField {
         /// The field.
         field: String,
@@ -512,7 +463,6 @@ pub enum Error {
         span: SourceSpan,
     },
     /// An enum has two cases of one name.
-    #[error("duplicate case `{case}` for enum type `{name}`")]
     DuplicateEnumCase {
         /// The case.
         case: String,
@@ -522,7 +472,6 @@ pub enum Error {
         span: SourceSpan,
     },
     /// Flags have two of one name.
-    #[error("duplicate flag `{flag}` for flags type `{name}`")]
     DuplicateFlag {
         /// The flag.
         flag: String,
@@ -532,7 +481,6 @@ pub enum Error {
         span: SourceSpan,
     },
     /// A function has two parameters of one name.
-    #[error("duplicate {kind} parameter `{name}`")]
     DuplicateParameter {
         /// The name.
         name: String,
@@ -542,7 +490,6 @@ pub enum Error {
         span: SourceSpan,
     },
     /// A function has two results of one name. No document is refused for it: a function has one result, without a name.
-    #[error("duplicate {kind} result `{name}`")]
     DuplicateResult {
         /// The name.
         name: String,
@@ -552,13 +499,11 @@ pub enum Error {
         span: SourceSpan,
     },
     /// A function returns a borrow.
-    #[error("function result cannot recursively contain a borrow type")]
     BorrowInResult {
         /// Where the fault stands.
         span: SourceSpan,
     },
     /// Memory was refused.
-    #[error("out of memory")]
     Memory,
 }
 

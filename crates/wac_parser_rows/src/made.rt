@@ -1,21 +1,25 @@
 //! Values that no source gives.
 
-use crate::paths::path_told;
+use crate::paths::tell_path;
 use crate::sink::Sink;
-use anyhow::{Result, bail};
-use std::alloc::{AllocError, Global};
+use crate::writers::tell_taken;
 use wac_parser_lexer::{Error, SourceSpan, Token};
 use wac_parser_print::DocumentPrinter;
 use wac_parser_tree::{PackageDirective, PackageName, PackagePath};
+use wac_rows::Told;
 
-/// The tokens that no lexer gives.
-fn comments(alloc: Global) -> Result<String, AllocError> {
-    format!(in alloc; "{}, {}", Token::Comment, Token::BlockComment)
+/// Tells the tokens that no lexer gives.
+fn tell_comments(told: &mut Told) {
+    told.show(&Token::Comment);
+    told.push(", ");
+    told.show(&Token::BlockComment);
 }
 
-/// The faults that are made of nothing.
-fn faults(alloc: Global) -> Result<String, AllocError> {
-    format!(in alloc; "{}, {}", Error::from(()), Error::default())
+/// Tells the faults that are made of nothing.
+fn tell_faults(told: &mut Told) {
+    told.show(&Error::from(()));
+    told.push(", ");
+    told.show(&Error::default());
 }
 
 /// A path without a name, at the greatest place.
@@ -42,23 +46,21 @@ fn far_directive() -> PackageDirective<'static> {
     }
 }
 
-/// The text that a directive prints as over three letters.
-fn directive_told(directive: &PackageDirective<'_>, alloc: Global) -> Result<String> {
-    let sink = Sink::new(alloc, usize::MAX, 0, false);
+/// Tells the text that a directive prints as over three letters.
+fn tell_directive(directive: &PackageDirective<'_>, told: &mut Told) {
+    let sink = Sink::new(told.alloc(), usize::MAX, 0, false);
     let mut printer = DocumentPrinter::new(sink, "xyz", None);
-    printer.package_directive(directive)?;
-    let sink = printer.into_writer();
-    let text = std::str::from_utf8(&sink.taken)?;
-    Ok(format!(in alloc; "{text}(end)")?)
+    told.end(printer.package_directive(directive));
+    tell_taken(told, &printer.into_writer());
 }
 
-/// What is told of the values of a name.
-pub(crate) fn made(alloc: Global, name: &str) -> Result<String> {
+/// Tells the values of a name.
+pub(crate) fn tell_made(told: &mut Told, name: &str) {
     match name {
-        "comments" => Ok(comments(alloc)?),
-        "faults" => Ok(faults(alloc)?),
-        "path" => Ok(path_told(&far_path(0, "/x"), alloc)?),
-        "directive" => directive_told(&far_directive(), alloc),
-        _ => bail!("no such values"),
+        "comments" => tell_comments(told),
+        "faults" => tell_faults(told),
+        "path" => tell_path(&far_path(0, "/x"), told),
+        "directive" => tell_directive(&far_directive(), told),
+        _ => told.push("no such values"),
     }
 }

@@ -1,78 +1,79 @@
 //! Parts of documents as texts: what their accessors give.
 
-use crate::paths::path_told;
-use std::alloc::{AllocError, Global};
+use crate::paths::tell_path;
+use crate::tokens::tell_span;
 use wac_parser_lexer::SourceSpan;
 use wac_parser_tree::{
     Expr, ExternName, Ident, InstantiationArgumentName, ItemTypeDecl, PackagePath, Type, TypeDecl,
     WorldRef,
 };
+use wac_rows::Told;
 
 /// Parts that are told.
-pub(crate) trait Told: Sized {
-    fn told(&self, alloc: Global) -> Result<String, AllocError>;
+pub(crate) trait TellPart: Sized {
+    fn tell(&self, told: &mut Told);
 }
 
-/// A text with its place.
-pub(crate) fn placed(alloc: Global, text: &str, span: SourceSpan) -> Result<String, AllocError> {
-    format!(in alloc; "{text} at {}+{}", span.offset, span.length)
+/// Tells a text with its place.
+pub(crate) fn tell_placed(told: &mut Told, text: &str, span: SourceSpan) {
+    told.push(text);
+    told.push(" at ");
+    tell_span(told, span);
 }
 
-impl<'a> Told for Ident<'a> {
-    fn told(&self, alloc: Global) -> Result<String, AllocError> {
-        placed(alloc, self.string, self.span)
+impl<'a> TellPart for Ident<'a> {
+    fn tell(&self, told: &mut Told) {
+        tell_placed(told, self.string, self.span);
     }
 }
 
-impl<'a> Told for ExternName<'a> {
-    fn told(&self, alloc: Global) -> Result<String, AllocError> {
-        placed(alloc, self.as_str(), self.span())
+impl<'a> TellPart for ExternName<'a> {
+    fn tell(&self, told: &mut Told) {
+        tell_placed(told, self.as_str(), self.span());
     }
 }
 
-impl<'a> Told for InstantiationArgumentName<'a> {
-    fn told(&self, alloc: Global) -> Result<String, AllocError> {
-        placed(alloc, self.as_str(), self.span())
+impl<'a> TellPart for InstantiationArgumentName<'a> {
+    fn tell(&self, told: &mut Told) {
+        tell_placed(told, self.as_str(), self.span());
     }
 }
 
-impl<'a> Told for WorldRef<'a> {
-    fn told(&self, alloc: Global) -> Result<String, AllocError> {
-        placed(alloc, self.name(), self.span())
+impl<'a> TellPart for WorldRef<'a> {
+    fn tell(&self, told: &mut Told) {
+        tell_placed(told, self.name(), self.span());
     }
 }
 
-impl<'a> Told for TypeDecl<'a> {
-    fn told(&self, alloc: Global) -> Result<String, AllocError> {
-        self.id().told(alloc)
+impl<'a> TellPart for TypeDecl<'a> {
+    fn tell(&self, told: &mut Told) {
+        self.id().tell(told);
     }
 }
 
-impl<'a> Told for ItemTypeDecl<'a> {
-    fn told(&self, alloc: Global) -> Result<String, AllocError> {
-        self.id().told(alloc)
+impl<'a> TellPart for ItemTypeDecl<'a> {
+    fn tell(&self, told: &mut Told) {
+        self.id().tell(told);
     }
 }
 
-impl<'a> Told for Type<'a> {
-    fn told(&self, alloc: Global) -> Result<String, AllocError> {
-        placed(alloc, "type", self.span())
+impl<'a> TellPart for Type<'a> {
+    fn tell(&self, told: &mut Told) {
+        tell_placed(told, "type", self.span());
     }
 }
 
-impl<'a> Told for Expr<'a> {
-    fn told(&self, alloc: Global) -> Result<String, AllocError> {
-        let mut told = placed(alloc, "primary", self.primary.span())?;
+impl<'a> TellPart for Expr<'a> {
+    fn tell(&self, told: &mut Told) {
+        tell_placed(told, "primary", self.primary.span());
         for access in &self.postfix {
-            let span = access.span();
-            write!(told, ", access at {}+{}", span.offset, span.length)?;
+            tell_placed(told, ", access", access.span());
         }
-        Ok(told)
     }
 }
 
-impl<'a> Told for PackagePath<'a> {
-    fn told(&self, alloc: Global) -> Result<String, AllocError> {
-        path_told(self, alloc)
+impl<'a> TellPart for PackagePath<'a> {
+    fn tell(&self, told: &mut Told) {
+        tell_path(self, told);
     }
 }

@@ -1,10 +1,10 @@
 //! The texts that documents print as.
 
-use anyhow::{Result, ensure};
 use std::alloc::{AllocError, Global};
 use wac_parser_print::{DocumentPrinter, PrintError};
 use wac_parser_read::ParseDocument;
 use wac_parser_tree::Document;
+use wac_rows::Told;
 
 // What owns a document is generic in its type, and the type is named where the text that it borrows comes first, as a document
 // does where it is lent: a proof then need not take the whole tree of types apart.
@@ -41,43 +41,48 @@ impl<'s> PrintDocument for Document<'s> {
     }
 }
 
-/// The text of a document, and `(end)` behind it.
-fn text_of<D: PrintDocument>(
-    document: &D,
-    alloc: Global,
-    source: &str,
-    unit: &str,
-) -> Result<String> {
-    let bytes = document.print(alloc, source, unit)?;
-    let text = std::str::from_utf8(&bytes)?;
-    Ok(format!(in alloc; "{text}(end)")?)
+/// Tells the text of a document, and `(end)` behind it.
+fn tell_text<D: PrintDocument>(document: &D, told: &mut Told, source: &str, unit: &str) {
+    match document.print(told.alloc(), source, unit) {
+        Ok(bytes) => {
+            told.push_bytes(&bytes);
+            told.push("(end)");
+        }
+        Err(fault) => told.show(&fault),
+    }
 }
 
-/// The text of a clone of a document.
-fn text_of_clone<'s, D: ParseDocument<'s> + PrintDocument>(
+/// Tells the text of a clone of a document.
+fn tell_clone<'s, D: ParseDocument<'s> + PrintDocument>(
     document: &D,
-    alloc: Global,
+    told: &mut Told,
     source: &'s str,
     unit: &str,
-) -> Result<String> {
-    let copy = document.copied(alloc)?;
-    text_of(&copy, alloc, source, unit)
+) {
+    match document.copied(told.alloc()) {
+        Ok(copy) => tell_text(&copy, told, source, unit),
+        Err(_) => told.push("out of memory"),
+    }
 }
 
-/// The text that a source's document and a clone of it print as.
-fn text_twice<'s, D: ParseDocument<'s> + PrintDocument>(
+/// Tells the text that a source's document prints as, and that of a clone of it, if it is another.
+fn tell_both<'s, D: ParseDocument<'s> + PrintDocument>(
     source: &'s str,
-    alloc: Global,
+    told: &mut Told,
     unit: &str,
-) -> Result<String> {
-    let document = D::parse(alloc, source)?;
-    let text = text_of(&document, alloc, source, unit)?;
-    let again = text_of_clone(&document, alloc, source, unit)?;
-    ensure!(again.as_str() == text.as_str(), "a clone prints otherwise");
-    Ok(text)
+) {
+    match D::parse(told.alloc(), source) {
+        Ok(document) => {
+            let mut again = Told::new(told.alloc());
+            tell_clone(&document, &mut again, source, unit);
+            tell_text(&document, told, source, unit);
+            let _ = told.compare(&again);
+        }
+        Err(fault) => told.show(&fault),
+    }
 }
 
-/// The text that the document of a source prints as, and a clone of it.
-pub(crate) fn printed(source: &str, alloc: Global, unit: &str) -> Result<String> {
-    text_twice::<Document<'_>>(source, alloc, unit)
+/// Tells the text that the document of a source prints as, and a clone of it.
+pub(crate) fn tell_printed(source: &str, told: &mut Told, unit: &str) {
+    tell_both::<Document<'_>>(source, told, unit);
 }

@@ -1,131 +1,132 @@
 //! Parts that one lexer reads, one behind the other.
 
-use crate::parts::{Told, placed};
-use anyhow::{Result, bail};
-use std::alloc::{AllocError, Global};
+use crate::parts::{TellPart, tell_placed};
 use wac_parser_lexer::{Lexer, Token};
 use wac_parser_read::{
-    Error, Lookahead, Parse, ParseResult, Peek, parse_delimited, parse_optional,
-    parse_optional_payload, parse_token,
+    Lookahead, Parse, ParseResult, Peek, parse_delimited, parse_optional, parse_optional_payload,
+    parse_token,
 };
 use wac_parser_tree::{
     Expr, ExternName, Flag, Ident, InstantiationArgumentName, ItemTypeDecl, PackagePath, Type,
     TypeDecl, WorldRef,
 };
+use wac_rows::Told;
 
 // A fault has many tokens in it: it is told where it comes, so that proofs of the rest need not take it apart.
 
-/// A fault by `Debug`.
-fn fault_told(fault: &Error, alloc: Global) -> Result<String, AllocError> {
-    format!(in alloc; "{fault:?}")
-}
-
-/// The part that comes next.
-fn part<'a, T: Parse<'a> + Told>(
-    lexer: &mut Lexer<'a>,
-    alloc: Global,
-) -> Result<String, AllocError> {
-    match T::parse(alloc, lexer) {
-        Ok(part) => part.told(alloc),
-        Err(fault) => fault_told(&fault, alloc),
+/// Tells the part that comes next.
+fn tell_part<'a, T: Parse<'a> + TellPart>(lexer: &mut Lexer<'a>, told: &mut Told) {
+    match T::parse(told.alloc(), lexer) {
+        Ok(part) => part.tell(told),
+        Err(fault) => told.show_debug(&fault),
     }
 }
 
-fn flags_told(flags: &[Flag<'_>], alloc: Global) -> Result<String, AllocError> {
-    let mut told = format!(in alloc; "{} flags", flags.len())?;
-    for flag in flags {
-        write!(told, " {}", flag.id.string)?;
-    }
-    Ok(told)
-}
-
-/// The flags before a closing brace.
-fn flags(lexer: &mut Lexer<'_>, alloc: Global) -> Result<String, AllocError> {
-    let flags: ParseResult<Vec<Flag<'_>>> = parse_delimited(alloc, lexer, Token::CloseBrace, true);
+/// Tells the flags before a closing brace.
+fn tell_flags(lexer: &mut Lexer<'_>, told: &mut Told) {
+    let flags: ParseResult<Vec<Flag<'_>>> = parse_delimited(
+        told.alloc(),
+        lexer,
+        Token::CloseBrace,
+        true,
+    );
     match flags {
-        Ok(flags) => flags_told(&flags, alloc),
-        Err(fault) => fault_told(&fault, alloc),
+        Ok(flags) => {
+            told.show(&flags.len());
+            told.push(" flags");
+            for flag in &flags {
+                told.push(" ");
+                told.push(flag.id.string);
+            }
+        }
+        Err(fault) => told.show_debug(&fault),
     }
 }
 
-/// A closing brace.
-fn brace(lexer: &mut Lexer<'_>, alloc: Global) -> Result<String, AllocError> {
+/// Tells a closing brace.
+fn tell_brace(lexer: &mut Lexer<'_>, told: &mut Told) {
     match parse_token(lexer, Token::CloseBrace) {
-        Ok(span) => placed(alloc, "brace", span),
-        Err(fault) => fault_told(&fault, alloc),
+        Ok(span) => tell_placed(told, "brace", span),
+        Err(fault) => told.show_debug(&fault),
     }
 }
 
-/// What is told where an identifier was looked for, and then the `list` keyword.
-fn look(lexer: &Lexer<'_>, alloc: Global) -> Result<String, AllocError> {
+/// Tells where an identifier was looked for, and then the `list` keyword.
+fn tell_look(lexer: &Lexer<'_>, told: &mut Told) {
     let mut lookahead = Lookahead::new(lexer);
     if Ident::peek(&mut lookahead) {
-        return String::from_str(alloc, "an identifier");
+        return told.push("an identifier");
     }
     let is_list = lookahead.peek(Token::ListKeyword);
-    let fault = lookahead.error();
-    format!(in alloc; "list {is_list}: {fault}")
+    told.push(if is_list {
+        "list true: "
+    } else {
+        "list false: "
+    });
+    told.show(&lookahead.error());
 }
 
-/// The name behind `as`, if that comes next.
-fn alias(lexer: &mut Lexer<'_>, alloc: Global) -> Result<String, AllocError> {
-    let name: ParseResult<Option<Ident<'_>>> = parse_optional(alloc, lexer, Token::AsKeyword);
+/// Tells the name behind `as`, if that comes next.
+fn tell_alias(lexer: &mut Lexer<'_>, told: &mut Told) {
+    let name: ParseResult<Option<Ident<'_>>> = parse_optional(
+        told.alloc(),
+        lexer,
+        Token::AsKeyword,
+    );
     match name {
-        Ok(Some(id)) => id.told(alloc),
-        Ok(None) => String::from_str(alloc, "no name"),
-        Err(fault) => fault_told(&fault, alloc),
+        Ok(Some(id)) => id.tell(told),
+        Ok(None) => told.push("no name"),
+        Err(fault) => told.show_debug(&fault),
     }
 }
 
-/// The type in angles behind a keyword, and the span of all.
-fn payload(lexer: &mut Lexer<'_>, alloc: Global) -> Result<String, AllocError> {
+/// Tells the type in angles behind a keyword, and the span of all.
+fn tell_payload(lexer: &mut Lexer<'_>, told: &mut Told) {
     if lexer.peek().is_none() {
-        return String::from_str(alloc, "no keyword");
+        return told.push("no keyword");
     }
-    match parse_optional_payload(alloc, lexer) {
-        Ok((Some(_), span)) => placed(alloc, "type", span),
-        Ok((None, span)) => placed(alloc, "no type", span),
-        Err(fault) => fault_told(&fault, alloc),
+    match parse_optional_payload(told.alloc(), lexer) {
+        Ok((Some(_), span)) => tell_placed(told, "type", span),
+        Ok((None, span)) => tell_placed(told, "no type", span),
+        Err(fault) => told.show_debug(&fault),
     }
 }
 
-/// What a step reads, or its fault.
-fn step(lexer: &mut Lexer<'_>, alloc: Global, name: &str) -> Result<String, AllocError> {
+/// Tells what a step reads that is a call of its own.
+fn tell_call(lexer: &mut Lexer<'_>, told: &mut Told, name: &str) {
     match name {
-        "identifier" => part::<Ident<'_>>(lexer, alloc),
-        "name" => part::<ExternName<'_>>(lexer, alloc),
-        "argument" => part::<InstantiationArgumentName<'_>>(lexer, alloc),
-        "world" => part::<WorldRef<'_>>(lexer, alloc),
-        "declaration" => part::<TypeDecl<'_>>(lexer, alloc),
-        "item" => part::<ItemTypeDecl<'_>>(lexer, alloc),
-        "type" => part::<Type<'_>>(lexer, alloc),
-        "expression" => part::<Expr<'_>>(lexer, alloc),
-        "path" => part::<PackagePath<'_>>(lexer, alloc),
-        _ => step_of_call(lexer, alloc, name),
+        "flags" => tell_flags(lexer, told),
+        "brace" => tell_brace(lexer, told),
+        "look" => tell_look(lexer, told),
+        "alias" => tell_alias(lexer, told),
+        "payload" => tell_payload(lexer, told),
+        _ => told.push("no such step"),
     }
 }
 
-/// What a step reads that is a call of its own.
-fn step_of_call(lexer: &mut Lexer<'_>, alloc: Global, name: &str) -> Result<String, AllocError> {
+/// Tells what a step reads, or its fault.
+fn tell_step(lexer: &mut Lexer<'_>, told: &mut Told, name: &str) {
     match name {
-        "flags" => flags(lexer, alloc),
-        "brace" => brace(lexer, alloc),
-        "look" => look(lexer, alloc),
-        "alias" => alias(lexer, alloc),
-        "payload" => payload(lexer, alloc),
-        _ => String::from_str(alloc, "no such step"),
+        "identifier" => tell_part::<Ident<'_>>(lexer, told),
+        "name" => tell_part::<ExternName<'_>>(lexer, told),
+        "argument" => tell_part::<InstantiationArgumentName<'_>>(lexer, told),
+        "world" => tell_part::<WorldRef<'_>>(lexer, told),
+        "declaration" => tell_part::<TypeDecl<'_>>(lexer, told),
+        "item" => tell_part::<ItemTypeDecl<'_>>(lexer, told),
+        "type" => tell_part::<Type<'_>>(lexer, told),
+        "expression" => tell_part::<Expr<'_>>(lexer, told),
+        "path" => tell_part::<PackagePath<'_>>(lexer, told),
+        _ => tell_call(lexer, told, name),
     }
 }
 
-/// What each of some steps reads of a source, one a line, or its fault.
-pub(crate) fn parts(source: &str, alloc: Global, steps: &str) -> Result<String> {
+/// Tells what each of some steps reads of a source, one a line, or its fault.
+pub(crate) fn tell_parts(source: &str, told: &mut Told, steps: &str) {
     let Ok(mut lexer) = Lexer::new(source) else {
-        bail!("the lexer refuses the source");
+        return told.push("the lexer refuses the source");
     };
-    let mut told = String::new(alloc);
     for name in steps.split(' ') {
-        let text = step(&mut lexer, alloc, name)?;
-        writeln!(told, "{text}")?;
+        tell_step(&mut lexer, told, name);
+        told.push("\n");
     }
-    Ok(told)
 }

@@ -1,48 +1,60 @@
 //! The JSON values of documents.
 
-use anyhow::{Context, Result};
 use serde_json::Value;
-use std::alloc::Global;
 use wac_parser_print::DocumentValue;
 use wac_parser_read::ParseDocument;
 use wac_parser_tree::Document;
-use wac_rows::Part;
+use wac_rows::{Part, Told};
 
-/// The value of a source's document.
+/// The value of a source's document, or the fault, which is told.
 fn value_of<'s, D: ParseDocument<'s> + DocumentValue>(
     source: &'s str,
-    alloc: Global,
-) -> Result<Value> {
-    let document = D::parse(alloc, source)?;
-    Ok(document.to_value(alloc)?)
+    told: &mut Told,
+) -> Option<Value> {
+    match D::parse(told.alloc(), source) {
+        Ok(document) => told.given(document.to_value(told.alloc())),
+        Err(fault) => {
+            told.show(&fault);
+            None
+        }
+    }
 }
 
 /// Whether what stands in a value under a part's pointer is the value of the part's text. If not, it is told.
-fn stands(alloc: Global, value: &Value, part: &Part<'_>, told: &mut String) -> Result<bool> {
-    let wanted = Value::from_str(alloc, part.text)?;
-    let found = value.pointer(part.name).context("nothing under a pointer")?;
-    if *found == wanted {
-        return Ok(true);
+fn stands(value: &Value, told: &mut Told, part: &Part<'_>) -> bool {
+    let wanted = Value::from_str(told.alloc(), part.text);
+    match (value.pointer(part.name), wanted) {
+        (Some(found), Ok(wanted)) if *found == wanted => true,
+        (Some(found), _) => {
+            told.push(part.name);
+            told.push(": ");
+            told.show(found);
+            told.push("\n");
+            false
+        }
+        (None, _) => {
+            told.push(part.name);
+            told.push(": nothing\n");
+            false
+        }
     }
-    writeln!(told, "{}: {found}", part.name)?;
-    Ok(false)
 }
 
-/// What stands otherwise under the pointers of the parts `at`, and how many stand as stated.
-fn told_of(alloc: Global, value: &Value, parts: &[Part<'_>]) -> Result<String> {
-    let mut told = String::new(alloc);
+/// Tells what stands otherwise under the pointers of the parts `at`, and how many stand as stated.
+fn tell_of(value: &Value, told: &mut Told, parts: &[Part<'_>]) {
     let mut count = 0u64;
     for part in parts {
-        if part.kind == "at" && stands(alloc, value, part, &mut told)? {
+        if part.kind == "at" && stands(value, told, part) {
             count = count.saturating_add(1);
         }
     }
-    writeln!(told, "{count} as stated")?;
-    Ok(told)
+    told.show(&count);
+    told.push(" as stated");
 }
 
-/// What stands otherwise in the value of a source's document, and how much stands as stated.
-pub(crate) fn values(source: &str, alloc: Global, parts: &[Part<'_>]) -> Result<String> {
-    let value = value_of::<Document<'_>>(source, alloc)?;
-    told_of(alloc, &value, parts)
+/// Tells what stands otherwise in the value of a source's document, and how much stands as stated.
+pub(crate) fn tell_values(source: &str, told: &mut Told, parts: &[Part<'_>]) {
+    if let Some(value) = value_of::<Document<'_>>(source, told) {
+        tell_of(&value, told, parts);
+    }
 }

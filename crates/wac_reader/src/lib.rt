@@ -9,6 +9,7 @@ mod cursor;
 mod customs;
 mod down;
 mod entries;
+mod looks;
 mod names;
 mod told;
 mod type_text;
@@ -18,6 +19,7 @@ mod wiring;
 use cursor::Cursor;
 pub use customs::{DebugName, Processor};
 pub use down::{Inner, Made, WholeReading, read_down};
+pub use looks::{look, nested_in, tell_down, tell_level};
 use std::alloc::{AllocError, AllocFailed, Global};
 pub use wiring::{Leaf, tell};
 
@@ -42,7 +44,7 @@ impl<T: Drop> From<AllocFailed<T>> for ReadError {
 }
 
 /// What an index stands for.
-#[derive(Clone, Copy, Debug, Drop, PartialEq, Eq)]
+#[derive(Clone, Copy, Drop, PartialEq, Eq)]
 pub enum Sort {
     Module,
     Func,
@@ -51,6 +53,20 @@ pub enum Sort {
     Instance,
     /// A core type: it can be neither imported nor exported.
     CoreType,
+}
+
+impl Sort {
+    /// The sort's name.
+    fn word(self) -> &'static str {
+        match self {
+            Sort::Module => "Module",
+            Sort::Func => "Func",
+            Sort::Type => "Type",
+            Sort::Component => "Component",
+            Sort::Instance => "Instance",
+            Sort::CoreType => "CoreType",
+        }
+    }
 }
 
 /// Where a source begins.

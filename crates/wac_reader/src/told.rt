@@ -36,6 +36,15 @@ impl Text {
         }
     }
 
+    /// Writes two digits for each byte.
+    pub fn push_bytes(&mut self, bytes: &[u8]) {
+        for byte in bytes {
+            if let Err(refusal) = write!(self.text, "{byte:02x}") {
+                self.refusal = Some(refusal);
+            }
+        }
+    }
+
     pub fn finish(self) -> Result<String, ReadError> {
         match self.refusal {
             Some(refusal) => Err(ReadError::from(refusal)),
@@ -50,6 +59,16 @@ pub fn between(alloc: Global, front: &str, inside: &str, back: &str) -> Result<S
     text.push(front);
     text.push(inside);
     text.push(back);
+    text.finish()
+}
+
+/// Lines, one below the other.
+pub fn tell_lines(alloc: Global, lines: &[String]) -> Result<String, ReadError> {
+    let mut text = Text::new(alloc);
+    for line in lines {
+        text.push(line.as_str());
+        text.push("\n");
+    }
     text.finish()
 }
 

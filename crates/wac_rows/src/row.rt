@@ -7,7 +7,7 @@ ghost use Rattle.wac_rows.specs.Parts.{first_text};
 use std::alloc::{AllocError, Global};
 
 /// A part of a row.
-#[derive(Clone, Copy, Debug, Drop)]
+#[derive(Clone, Copy, Drop)]
 pub struct Part<'a> {
     /// The first word of its line.
     pub kind: &'a str,
@@ -28,10 +28,15 @@ impl<'a> Part<'a> {
             text: text.trim_end_matches('\n'),
         }
     }
+
+    /// Its text as a source, which ends before `(end)` where that stands, so that line feeds can end it.
+    pub fn source(&self) -> &'a str {
+        self.text.strip_suffix("(end)").unwrap_or(self.text)
+    }
 }
 
 /// A row.
-#[derive(Debug, Drop)]
+#[derive(Drop)]
 pub struct Row<'a> {
     pub name: &'a str,
     /// The parts as they stand in the file.
@@ -63,5 +68,28 @@ impl<'a> Row<'a> {
             }
         }
         None
+    }
+
+    /// The text of the first part of a kind, or nothing.
+    pub fn text_or_nothing(&self, kind: &str) -> &'a str {
+        self.text(kind).unwrap_or("")
+    }
+
+    /// The name of the first part of a kind, or nothing.
+    pub fn name_of(&self, kind: &str) -> &'a str {
+        for part in &self.parts {
+            if kind == part.kind {
+                return part.name;
+            }
+        }
+        ""
+    }
+
+    /// The first part, or an empty one.
+    pub fn first(&self) -> Part<'a> {
+        match self.parts.first() {
+            Some(part) => *part,
+            None => Part::read(""),
+        }
     }
 }

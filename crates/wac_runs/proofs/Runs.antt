@@ -26,7 +26,7 @@ use Rattle.wac_outputs.specs.Calls.{AreCalls, none_yet, then_call, hands_in, com
 use Rattle.wac_outputs.proofs.Called.{carried}
 use Rattle.wac_workspace.proofs.Zips.{zip_at}
 use Rattle.wac.specs.Adding.{AddsComponents}
-use Rattle.wac.specs.Running.{Outside, Puts, PutsSources, options_of, path_of}
+use Rattle.wac.specs.Running.{Outside, Puts, PutsSources, path_of}
 use Rattle.wac_runs.specs.Levels.{IsLeft, Runs_are_as_ascribed, outputs_of}
 
 -- ---- calls
@@ -65,7 +65,7 @@ record Resolved (ps : Handed) (source : List ℕ) : Type 0 where
   pub target : Option Stated
   pub resolves : resolved tree ps ≡ Ok (state, target)
 
-resolved_by : (define : Bool) → define ≡ true → (ps : Handed) (source bytes : List ℕ) → MeansSource (options_of define) ps source bytes → Resolved ps source
+resolved_by : (define : Bool) → define ≡ true → (ps : Handed) (source bytes : List ℕ) → MeansSource define ps source bytes → Resolved ps source
 unfolding MeansSource AreAscribedBytes
 resolved_by define nested ps source bytes means =
     let m : IsMeantBy ps source bytes = means nested in
@@ -95,8 +95,8 @@ composing define nested (s ∷ sources) first old last before after steps calls 
     let one : Puts define (path_of s) source old mid before puts.1 = puts.2.2 in
     let o = one.output in
     let r = resolved_by define nested (handed old.packages) source o.bytes.items one.composed.means in
-    let composed : ComposesSource old mid source true o = subst (λ b. ComposesSource old mid source b o) nested one.composed.composed in
-    let call = composes source (options_of define) o r.tree r.state r.target nested r.read r.resolves composed one.composed.means in
+    let composed : ComposesSource old mid source true o = subst (λ b. ComposesSource old mid source b o) nested one.composed in
+    let call = composes source o r.tree r.state r.target r.read r.resolves composed in
     let added = composed.kept.added in
     let more = composing define nested sources first mid last puts.1 after _ (then_call calls call) puts.3 in
     record {

@@ -2,7 +2,10 @@
 //! its source a refusal stands.
 #![tactic(auto)]
 
+mod mentions;
+mod origins;
 mod show;
+mod warnings;
 
 use crate::show::{Shown, show};
 use std::alloc::Global;

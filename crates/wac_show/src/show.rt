@@ -1,5 +1,6 @@
 //! Sources of a manifest as drawings, or as places of faults.
 
+use crate::warnings::warnings;
 use std::alloc::{AllocError, Global};
 use wac::manifest::{ComposeManifest, Source};
 use wac::{
@@ -8,6 +9,13 @@ use wac::{
 };
 use wac_draw::flowchart;
 use wac_parser_lexer::SourceSpan;
+
+/// What is seen of the graph of a source.
+#[derive(Drop)]
+struct Seen {
+    drawing: String,
+    warnings: String,
+}
 
 /// What is shown of sources, one after another.
 #[derive(Drop)]
@@ -22,20 +30,26 @@ struct Showing {
 }
 
 impl Showing {
-    /// The drawing of a source; none where it is refused.
-    fn drawing(&self, source: &str) -> Option<String> {
+    /// The drawing of a source with its warnings; none where it is refused.
+    fn seen(&self, source: &str) -> Option<Seen> {
         let graph = self.workspace.graph(source).ok()?;
-        flowchart(&graph, self.alloc).ok()
+        Some(Seen {
+            drawing: flowchart(&graph, self.alloc).ok()?,
+            warnings: warnings(&graph, self.alloc).ok()?,
+        })
     }
 
     /// Tells what a source was composed to.
-    fn tell_output(&mut self, output: &Output, drawing: Option<String>) -> Result<(), AllocError> {
+    fn tell_output(&mut self, output: &Output, seen: Option<Seen>) -> Result<(), AllocError> {
         let name = output.name.as_str();
         let length = output.bytes.len();
         writeln!(self.text, "%% {name}, {length} bytes")?;
-        match drawing {
+        match seen {
             None => Ok(()),
-            Some(drawing) => self.text.push_str(drawing.as_str()),
+            Some(Seen { drawing, warnings }) => {
+                self.text.push_str(drawing.as_str())?;
+                self.text.push_str(warnings.as_str())
+            }
         }
     }
 
@@ -65,7 +79,7 @@ impl Showing {
     /// Composes a source, and shows what comes of it. Whether it was accepted.
     fn show_source(&mut self, source: &str) -> Result<bool, AllocError> {
         self.count = self.count.saturating_add(1);
-        let drawing = self.drawing(source);
+        let seen = self.seen(source);
         let options = EncodeOptions {
             define_components: self.define,
             validate: true,
@@ -73,7 +87,7 @@ impl Showing {
         };
         match self.workspace.compose(source, options) {
             Ok(output) => {
-                self.tell_output(&output, drawing)?;
+                self.tell_output(&output, seen)?;
                 Ok(true)
             }
             Err(fault) => {

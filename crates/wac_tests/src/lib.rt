@@ -1,5 +1,5 @@
 //! Streams, places, worlds made by calls, plugging as a text and refused growths, by the calls that `wac` passes on. What runs
-//! of the program and steps of a workspace come to is shown by the rows of `wac_run_rows`.
+//! of the program and steps of a workspace come to is shown by the rows of `wac_all_rows`.
 #![tactic(auto)]
 
 #[cfg(test)]

@@ -1,5 +1,5 @@
 -- Files by their paths.
-use Rattle.std.specs.Prelude.{◌≡◌, ◌≢◌, ℕ, List, Option, Some, None}
+use Rattle.std.specs.Prelude.{◌≡◌, ◌≢◌, ◌+◌, ℕ, List, Option, Some, None, IfSome}
 use Rattle.wac_types_base.specs.Entries.{Name}
 
 -- what each path's file has, if it is there
@@ -16,3 +16,7 @@ abbrev pub KeepsOthers : Name → (old new : Option Stored) → Type 0
 KeepsOthers path None new = Unit {0}
 KeepsOthers path (Some old) None = ⊥
 KeepsOthers path (Some old) (Some new) = (other : Name) → other ≢ path → new other ≡ old other
+
+-- one more write failed than before
+abbrev pub FailsToWrite : (old new : Option ℕ) → Type 0
+FailsToWrite old new = IfSome old (λ n. new ≡ Some (n + 1))

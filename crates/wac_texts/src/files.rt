@@ -1,9 +1,9 @@
 //! Files by their paths.
 
-ghost use Rattle.std.specs.Prelude.{◌≡◌, List, [], Option, Some, None, IfOk, OnOk, OnErr, IsErrOf, string_bytes};
+ghost use Rattle.std.specs.Prelude.{◌≡◌, ◌≢◌, ℕ, List, [], Option, Some, None, Err, IfOk, OnOk, OnErr, IsErrOf, string_bytes};
 ghost use Rattle.std.specs.Option.{option_map};
 ghost use Rattle.wac_types_base.specs.Entries.{value_at, put_entry};
-ghost use Rattle.wac_texts.specs.Files.{Stored, Has, KeepsOthers};
+ghost use Rattle.wac_texts.specs.Files.{Stored, Has, KeepsOthers, FailsToWrite};
 ghost use Rattle.wac_texts.specs.declared.files.FilesError.{FilesError};
 
 use std::alloc::{AllocError, AllocFailed, Global};
@@ -37,6 +37,9 @@ pub trait Files {
     // what each path's file has, if it is there
     ghost stored: { Self → Option Stored };
 
+    // how many writes failed, where that is known
+    ghost failures: { Self → Option ℕ };
+
     /// The bytes of a file; [`FilesError::Failed`] where it is not there or cannot be read.
     fn read(&self, alloc: Global, path: &str) -> Result<Vec<u8>, FilesError>
         ensures bytes { IfOk result (λ bytes. Has (stored self.now) path.now (Some bytes.items)) }
@@ -45,7 +48,9 @@ pub trait Files {
     /// Makes these the bytes of a file, whether it was there or not. Where that fails the file may have others.
     fn write(&mut self, alloc: Global, path: &str, bytes: &[u8]) -> Result<(), FilesError>
         ensures written { OnOk result (Has (stored self.new) path.now (Some bytes.now)) }
-        ensures others { KeepsOthers path.now (stored self.old) (stored self.new) };
+        ensures others { KeepsOthers path.now (stored self.old) (stored self.new) }
+        ensures failed { IsErrOf result FilesError.Failed → FailsToWrite (failures self.old) (failures self.new) }
+        ensures none_failed { result ≢ Err FilesError.Failed → failures self.new ≡ failures self.old };
 }
 
 /// Files that are kept in memory, seen as the list of their paths and bytes.
@@ -99,6 +104,9 @@ impl Files for MemoryFiles {
 
     ghost stored = { λ m. Some (value_at m) };
 
+    // none does
+    ghost failures = { λ _. Some 0 };
+
     fn read(&self, alloc: Global, path: &str) -> Result<Vec<u8>, FilesError>
         ensures bytes { IfOk result (λ bytes. value_at self.now path.now ≡ Some bytes.items) }
         ensures missing { IsErrOf result FilesError.Failed → value_at self.now path.now ≡ None }
@@ -113,6 +121,7 @@ impl Files for MemoryFiles {
     fn write(&mut self, alloc: Global, path: &str, bytes: &[u8]) -> Result<(), FilesError>
         ensures written { OnOk result (Has (Some (value_at self.new)) path.now (Some bytes.now)) }
         ensures others { KeepsOthers path.now (Some (value_at self.old)) (Some (value_at self.new)) }
+        ensures failed { IsErrOf result FilesError.Failed → FailsToWrite (Some 0) (Some 0) }
         ensures kept { OnErr result (self.new ≡ self.old) }
         ensures memory { OnErr result (IsErrOf result FilesError.Memory) }
     {

@@ -13,7 +13,7 @@ ghost use Rattle.wac_types_fit.specs.Checking.{HasPair, IsTrueOf, OnlyTrue, AreI
 use crate::cache::{Cache, knows, remember};
 use crate::core_items::modules_fit;
 use crate::errors::{SubtypeError, mismatch, within};
-use crate::values::{same_funcs, same_resources, same_values};
+use crate::values::{is_one, same_funcs, same_resources, same_values};
 use std::alloc::{AllocError, Global};
 use wac_types_base::{ExternKind, InterfaceId, ItemKind, NamedMap, Type, Types, WorldId};
 
@@ -95,14 +95,16 @@ pub(crate) fn fits(
     requires given { Stands sides.given.now a }
     requires asked { Stands sides.asked.now b }
     requires apart { OneOrApart sides.given.now sides.asked.now }
-    requires cache { IsTrueOf sides.given.now sides.asked.now cache.old.keys }
-    ensures yes { OnOk result (Fit sides.entry.given.now a sides.entry.asked.now b) }
+    ensures yes { OnOk result (IsTrueOf sides.entry.given.now sides.entry.asked.now cache.old.keys
+        → Fit sides.entry.given.now a sides.entry.asked.now b) }
     ensures no { IfMismatch result (λ ss. Disagree ss (tree_in sides.entry.given.now a) (tree_in sides.entry.asked.now b)) }
     ensures words { IfSaid result (λ ss e f. AreCalled sides.entry.turned (Called sides.entry.given.now a ss)
         (Called sides.entry.asked.now b ss) e f) }
     ensures remembered { OnOk result (HasPair cache.new.keys a b) }
-    ensures only { OnlyTrue sides.entry.given.now sides.entry.asked.now cache.old.keys cache.new.keys }
-    ensures cache { IsTrueOf sides.entry.given.now sides.entry.asked.now cache.new.keys }
+    ensures only { IsTrueOf sides.entry.given.now sides.entry.asked.now cache.old.keys
+        → OnlyTrue sides.entry.given.now sides.entry.asked.now cache.old.keys cache.new.keys }
+    ensures cache { IsTrueOf sides.entry.given.now sides.entry.asked.now cache.old.keys
+        → IsTrueOf sides.entry.given.now sides.entry.asked.now cache.new.keys }
 {
     sides.given.see_acyclic();
     sides.asked.see_acyclic();
@@ -128,16 +130,21 @@ fn unfolded(
     requires given { Stands sides.given.now a }
     requires asked { Stands sides.asked.now b }
     requires apart { OneOrApart sides.given.now sides.asked.now }
-    requires cache { IsTrueOf sides.given.now sides.asked.now cache.old.keys }
-    ensures yes { OnOk result (Fit sides.entry.given.now a sides.entry.asked.now b) }
+    ensures yes { OnOk result (IsTrueOf sides.entry.given.now sides.entry.asked.now cache.old.keys
+        → Fit sides.entry.given.now a sides.entry.asked.now b) }
     ensures no { IfMismatch result (λ ss. Disagree ss (tree_in sides.entry.given.now a) (tree_in sides.entry.asked.now b)) }
     ensures words { IfSaid result (λ ss e f. AreCalled sides.entry.turned (Called sides.entry.given.now a ss)
         (Called sides.entry.asked.now b ss) e f) }
-    ensures only { OnlyTrue sides.entry.given.now sides.entry.asked.now cache.old.keys cache.new.keys }
-    ensures cache { IsTrueOf sides.entry.given.now sides.entry.asked.now cache.new.keys }
+    ensures only { IsTrueOf sides.entry.given.now sides.entry.asked.now cache.old.keys
+        → OnlyTrue sides.entry.given.now sides.entry.asked.now cache.old.keys cache.new.keys }
+    ensures cache { IsTrueOf sides.entry.given.now sides.entry.asked.now cache.old.keys
+        → IsTrueOf sides.entry.given.now sides.entry.asked.now cache.new.keys }
 {
     sides.given.see_acyclic();
     sides.asked.see_acyclic();
+    if is_one(a, sides.given, b, sides.asked) {
+        return Ok(());
+    }
     match (a, b) {
         (ItemKind::Ty(x), ItemKind::Ty(y)) => types_fit(sides, alloc, cache, x, y),
         (ItemKind::Func(f), ItemKind::Func(g)) => {
@@ -171,14 +178,16 @@ fn types_fit(
     requires given { Stands sides.given.now (ItemKind.Ty a) }
     requires asked { Stands sides.asked.now (ItemKind.Ty b) }
     requires apart { OneOrApart sides.given.now sides.asked.now }
-    requires cache { IsTrueOf sides.given.now sides.asked.now cache.old.keys }
-    ensures yes { OnOk result (Fit sides.entry.given.now (ItemKind.Ty a) sides.entry.asked.now (ItemKind.Ty b)) }
+    ensures yes { OnOk result (IsTrueOf sides.entry.given.now sides.entry.asked.now cache.old.keys
+        → Fit sides.entry.given.now (ItemKind.Ty a) sides.entry.asked.now (ItemKind.Ty b)) }
     ensures no { IfMismatch result (λ ss. Disagree ss (tree_in sides.entry.given.now (ItemKind.Ty a))
         (tree_in sides.entry.asked.now (ItemKind.Ty b))) }
     ensures words { IfSaid result (λ ss e f. AreCalled sides.entry.turned (Called sides.entry.given.now (ItemKind.Ty a) ss)
         (Called sides.entry.asked.now (ItemKind.Ty b) ss) e f) }
-    ensures only { OnlyTrue sides.entry.given.now sides.entry.asked.now cache.old.keys cache.new.keys }
-    ensures cache { IsTrueOf sides.entry.given.now sides.entry.asked.now cache.new.keys }
+    ensures only { IsTrueOf sides.entry.given.now sides.entry.asked.now cache.old.keys
+        → OnlyTrue sides.entry.given.now sides.entry.asked.now cache.old.keys cache.new.keys }
+    ensures cache { IsTrueOf sides.entry.given.now sides.entry.asked.now cache.old.keys
+        → IsTrueOf sides.entry.given.now sides.entry.asked.now cache.new.keys }
 {
     sides.given.see_acyclic();
     sides.asked.see_acyclic();
@@ -219,14 +228,16 @@ fn instances_fit(
     requires given { Stands sides.given.now (ItemKind.Instance a) }
     requires asked { Stands sides.asked.now (ItemKind.Instance b) }
     requires apart { OneOrApart sides.given.now sides.asked.now }
-    requires cache { IsTrueOf sides.given.now sides.asked.now cache.old.keys }
-    ensures yes { OnOk result (Fit sides.entry.given.now (ItemKind.Instance a) sides.entry.asked.now (ItemKind.Instance b)) }
+    ensures yes { OnOk result (IsTrueOf sides.entry.given.now sides.entry.asked.now cache.old.keys
+        → Fit sides.entry.given.now (ItemKind.Instance a) sides.entry.asked.now (ItemKind.Instance b)) }
     ensures no { IfMismatch result (λ ss. Disagree ss (tree_in sides.entry.given.now (ItemKind.Instance a))
         (tree_in sides.entry.asked.now (ItemKind.Instance b))) }
     ensures words { IfSaid result (λ ss e f. AreCalled sides.entry.turned (InstanceCalled sides.entry.given.now a ss)
         (InstanceCalled sides.entry.asked.now b ss) e f) }
-    ensures only { OnlyTrue sides.entry.given.now sides.entry.asked.now cache.old.keys cache.new.keys }
-    ensures cache { IsTrueOf sides.entry.given.now sides.entry.asked.now cache.new.keys }
+    ensures only { IsTrueOf sides.entry.given.now sides.entry.asked.now cache.old.keys
+        → OnlyTrue sides.entry.given.now sides.entry.asked.now cache.old.keys cache.new.keys }
+    ensures cache { IsTrueOf sides.entry.given.now sides.entry.asked.now cache.old.keys
+        → IsTrueOf sides.entry.given.now sides.entry.asked.now cache.new.keys }
 {
     let given = sides.given.interface(a);
     let asked = sides.asked.interface(b);
@@ -260,15 +271,16 @@ fn worlds_fit(
     requires given { Stands sides.given.now (ItemKind.Component a) }
     requires asked { Stands sides.asked.now (ItemKind.Component b) }
     requires apart { OneOrApart sides.given.now sides.asked.now }
-    requires cache { IsTrueOf sides.given.now sides.asked.now cache.old.keys }
-    ensures yes { OnOk result (Fit sides.entry.given.now (ItemKind.Component a) sides.entry.asked.now
-        (ItemKind.Component b)) }
+    ensures yes { OnOk result (IsTrueOf sides.entry.given.now sides.entry.asked.now cache.old.keys
+        → Fit sides.entry.given.now (ItemKind.Component a) sides.entry.asked.now (ItemKind.Component b)) }
     ensures no { IfMismatch result (λ ss. Disagree ss (tree_in sides.entry.given.now (ItemKind.Component a))
         (tree_in sides.entry.asked.now (ItemKind.Component b))) }
     ensures words { IfSaid result (λ ss e f. AreCalled sides.entry.turned (WorldCalled sides.entry.given.now a ss)
         (WorldCalled sides.entry.asked.now b ss) e f) }
-    ensures only { OnlyTrue sides.entry.given.now sides.entry.asked.now cache.old.keys cache.new.keys }
-    ensures cache { IsTrueOf sides.entry.given.now sides.entry.asked.now cache.new.keys }
+    ensures only { IsTrueOf sides.entry.given.now sides.entry.asked.now cache.old.keys
+        → OnlyTrue sides.entry.given.now sides.entry.asked.now cache.old.keys cache.new.keys }
+    ensures cache { IsTrueOf sides.entry.given.now sides.entry.asked.now cache.old.keys
+        → IsTrueOf sides.entry.given.now sides.entry.asked.now cache.new.keys }
 {
     let given = sides.given.world(a);
     let asked = sides.asked.world(b);
@@ -324,16 +336,17 @@ fn items_fit(
     requires given { AreInside sides.given.now given.of given.items.now }
     requires asked { AreInside sides.asked.now asked.of asked.items.now }
     requires apart { OneOrApart sides.given.now sides.asked.now }
-    requires cache { IsTrueOf sides.given.now sides.asked.now cache.old.keys }
-    ensures yes { OnOk result (GivesAll sides.entry.given.now given.entry.items.now sides.entry.asked.now
-        asked.entry.items.now) }
+    ensures yes { OnOk result (IsTrueOf sides.entry.given.now sides.entry.asked.now cache.old.keys
+        → GivesAll sides.entry.given.now given.entry.items.now sides.entry.asked.now asked.entry.items.now) }
     ensures no { IfMismatch result (ItemsDisagree side sides.entry.given.now given.entry.items.now sides.entry.asked.now
         asked.entry.items.now) }
     ensures words { IfSaid result (λ ss e f. AreCalled sides.entry.turned
         (ItemsCalled sides.entry.given.now side given.entry.items.now ss)
         (ItemsCalled sides.entry.asked.now side asked.entry.items.now ss) e f) }
-    ensures only { OnlyTrue sides.entry.given.now sides.entry.asked.now cache.old.keys cache.new.keys }
-    ensures cache { IsTrueOf sides.entry.given.now sides.entry.asked.now cache.new.keys }
+    ensures only { IsTrueOf sides.entry.given.now sides.entry.asked.now cache.old.keys
+        → OnlyTrue sides.entry.given.now sides.entry.asked.now cache.old.keys cache.new.keys }
+    ensures cache { IsTrueOf sides.entry.given.now sides.entry.asked.now cache.old.keys
+        → IsTrueOf sides.entry.given.now sides.entry.asked.now cache.new.keys }
 {
     for index in 0..asked.items.len() {
         let (name, kind) = asked.items.entry(index);
@@ -356,16 +369,17 @@ fn item_fits(
     requires given { AreInside sides.given.now given.of given.items.now }
     requires asked { Stands sides.asked.now asked.kind }
     requires apart { OneOrApart sides.given.now sides.asked.now }
-    requires cache { IsTrueOf sides.given.now sides.asked.now cache.old.keys }
-    ensures yes { OnOk result (GivesName sides.entry.given.now given.entry.items.now sides.entry.asked.now
-        asked.entry.name.now asked.entry.kind) }
+    ensures yes { OnOk result (IsTrueOf sides.entry.given.now sides.entry.asked.now cache.old.keys
+        → GivesName sides.entry.given.now given.entry.items.now sides.entry.asked.now asked.entry.name.now asked.entry.kind) }
     ensures no { IfMismatch result (NameDisagrees side sides.entry.given.now given.entry.items.now sides.entry.asked.now
         asked.entry.name.now asked.entry.kind) }
     ensures words { IfSaid result (λ ss e f. AreCalled sides.entry.turned
         (ItemsCalled sides.entry.given.now side given.entry.items.now ss)
         (NamedCalled sides.entry.asked.now side asked.entry.name.now asked.entry.kind ss) e f) }
-    ensures only { OnlyTrue sides.entry.given.now sides.entry.asked.now cache.old.keys cache.new.keys }
-    ensures cache { IsTrueOf sides.entry.given.now sides.entry.asked.now cache.new.keys }
+    ensures only { IsTrueOf sides.entry.given.now sides.entry.asked.now cache.old.keys
+        → OnlyTrue sides.entry.given.now sides.entry.asked.now cache.old.keys cache.new.keys }
+    ensures cache { IsTrueOf sides.entry.given.now sides.entry.asked.now cache.old.keys
+        → IsTrueOf sides.entry.given.now sides.entry.asked.now cache.new.keys }
 {
     match given.items.get(asked.name) {
         None => {

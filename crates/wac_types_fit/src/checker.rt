@@ -96,15 +96,15 @@ impl<'a> SubtypeChecker<'a> {
         requires given { Stands at.now a }
         requires asked { Stands bt.now b }
         requires apart { OneOrApart at.now bt.now }
-        requires cache { IsTrueOf at.now bt.now self.old.cache.now.keys }
-        ensures yes { OnOk result (Fit at.now a bt.now b) }
+        ensures yes { OnOk result (IsTrueOf at.now bt.now self.old.cache.now.keys → Fit at.now a bt.now b) }
         ensures no { IfMismatch result (λ ss. Fit at.now a bt.now b → ⊥) }
         ensures frames { IfMismatch result (λ ss. Disagree ss (tree_in at.now a) (tree_in bt.now b)) }
         ensures words { IfSaid result (λ ss e f. CalledUnder (direction_of self.old.directions) (Called at.now a ss)
             (Called bt.now b ss) e f) }
         ensures remembered { OnOk result (HasPair self.new.cache.now.keys a b) }
-        ensures only { OnlyTrue at.now bt.now self.old.cache.now.keys self.new.cache.now.keys }
-        ensures cache { IsTrueOf at.now bt.now self.new.cache.now.keys }
+        ensures only { IsTrueOf at.now bt.now self.old.cache.now.keys
+            → OnlyTrue at.now bt.now self.old.cache.now.keys self.new.cache.now.keys }
+        ensures cache { IsTrueOf at.now bt.now self.old.cache.now.keys → IsTrueOf at.now bt.now self.new.cache.now.keys }
         ensures direction { self.new.directions ≡ self.old.directions }
         ensures same_reference { self.new.cache.ghost_name ≡ self.old.cache.ghost_name }
     {

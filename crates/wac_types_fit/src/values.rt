@@ -6,7 +6,7 @@ ghost use Rattle.wac_types_base.specs.declared.item.ValueType.{ValueType};
 ghost use Rattle.wac_types_base.specs.declared.item.«Type».{«Type» as TypeKind};
 ghost use Rattle.wac_types_base.specs.Collection.{Stands, StandsIf};
 ghost use Rattle.wac_types_base.specs.Resolving.{IsNoAlias};
-ghost use Rattle.wac_types_fit.specs.Trees.{SameTree};
+ghost use Rattle.wac_types_fit.specs.Trees.{SameTree, OneOrApart};
 ghost use Rattle.wac_types_fit.specs.Checking.{value_in, HoldsValues, value_tree, place_trees};
 
 use crate::labels::{same_defined, same_names};
@@ -34,15 +34,30 @@ fn value_of(place: Option<ItemKind>) -> Option<ValueType>
     }
 }
 
+/// Whether two kinds are one id of one collection.
+pub(crate) fn is_one(a: ItemKind, at: &Types, b: ItemKind, bt: &Types) -> bool
+    requires { OneOrApart at.now bt.now }
+    ensures { IsTrue result → SameTree at.now a bt.now b }
+{
+    if at.number() != bt.number() {
+        return false;
+    }
+    is_same(a, b)
+}
+
 /// Whether two value types have one tree.
 #[cycle(values)]
 pub(crate) fn same_values(a: ValueType, at: &Types, b: ValueType, bt: &Types) -> bool
     requires given { Stands at.now (ItemKind.Value a) }
     requires asked { Stands bt.now (ItemKind.Value b) }
+    requires apart { OneOrApart at.now bt.now }
     ensures { IsTrue result ↔ SameTree at.now (ItemKind.Value a) bt.now (ItemKind.Value b) }
 {
     at.see_acyclic();
     bt.see_acyclic();
+    if is_one(ItemKind::Value(a), at, ItemKind::Value(b), bt) {
+        return true;
+    }
     same_resolved(at.resolve_value_type(a), at, bt.resolve_value_type(b), bt)
 }
 
@@ -53,6 +68,7 @@ fn same_resolved(a: ValueType, at: &Types, b: ValueType, bt: &Types) -> bool
     requires asked { Stands bt.now (ItemKind.Value b) }
     requires given_end { IsNoAlias at.now a }
     requires asked_end { IsNoAlias bt.now b }
+    requires apart { OneOrApart at.now bt.now }
     ensures { IsTrue result ↔ SameTree at.now (ItemKind.Value a) bt.now (ItemKind.Value b) }
 {
     at.see_acyclic();
@@ -89,6 +105,7 @@ pub(crate) fn same_places(a: ItemKind, at: &Types, b: ItemKind, bt: &Types) -> b
     requires asked { Stands bt.now b }
     requires given_values { HoldsValues at.now a }
     requires asked_values { HoldsValues bt.now b }
+    requires apart { OneOrApart at.now bt.now }
     ensures { IsTrue result ↔ (place_trees at.now a ≡ place_trees bt.now b) }
 {
     at.see_acyclic();
@@ -113,6 +130,7 @@ pub(crate) fn same_places(a: ItemKind, at: &Types, b: ItemKind, bt: &Types) -> b
 fn same_place(a: Option<ValueType>, at: &Types, b: Option<ValueType>, bt: &Types) -> bool
     requires given { StandsIf at.now a }
     requires asked { StandsIf bt.now b }
+    requires apart { OneOrApart at.now bt.now }
     ensures { IsTrue result ↔ (value_tree at.now a ≡ value_tree bt.now b) }
 {
     match a {
@@ -128,6 +146,7 @@ fn same_place(a: Option<ValueType>, at: &Types, b: Option<ValueType>, bt: &Types
 pub(crate) fn same_funcs(a: FuncTypeId, at: &Types, b: FuncTypeId, bt: &Types) -> bool
     requires given { Stands at.now (ItemKind.Func a) }
     requires asked { Stands bt.now (ItemKind.Func b) }
+    requires apart { OneOrApart at.now bt.now }
     ensures { IsTrue result ↔ SameTree at.now (ItemKind.Func a) bt.now (ItemKind.Func b) }
 {
     let given = at.func_type(a);

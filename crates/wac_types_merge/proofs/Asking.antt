@@ -13,6 +13,7 @@ use Rattle.wac_types_base.specs.Entries.{Name}
 use Rattle.wac_types_base.proofs.Loops.{get-place}
 use Rattle.wac_types_base.proofs.Walking.{some_place}
 use Rattle.wac_types_names.specs.Tracks.{AreCompatible}
+use Rattle.wac_types_fit.specs.Frames.{Step, Disagree}
 use Rattle.wac_types_fit.specs.Meets.{IsMeet, IsPlain, Clash}
 use Rattle.wac_types_fit.specs.Trees.{tree_in}
 use Rattle.wac_types_fit.proofs.Ordering.{named_in_order}
@@ -21,7 +22,8 @@ use Rattle.wac_types_merge.specs.declared.family.Import.{Import}
 use Rattle.wac_types_merge.specs.Families.{UsesUnnamed, joint}
 use Rattle.wac_types_merge.specs.United.{KeepsUnited}
 use Rattle.wac_types_merge.specs.Imports.{Imports, IsPlace, AreSound, AreApart, IsMergeable, KeepsNarrower}
-use Rattle.wac_types_merge.specs.Merging.{Ask, tree_asked, HasFamily, IsAsked, HaveNoCommon, AreOutside}
+use Rattle.wac_types_merge.specs.Merging.{Ask, tree_asked, HasFamily, IsAsked, HaveNoCommon, AreOutside, LeadApart}
+use Rattle.wac_types_merge.specs.Interfaces.{LeadsIn}
 use Rattle.wac_types_merge.specs.Steps.{HasClash, LieOutside, IsMerged}
 use Rattle.wac_types_merge.proofs.Grown.{tree_kept, copied_tree}
 use Rattle.wac_types_merge.proofs.Plain.{family_plain, plain_meet}
@@ -190,4 +192,12 @@ module _ (old new : Imports) (a : Ask) (acyclic : IsAcyclic a.types) (stands : S
       no_family = h.0;
       kept_wider = subst (λ t. Fits t (tree_asked a) → ⊥) was (subst (λ u. Fits (tree_in mid before.kind) u → ⊥) is_asked h.1.0);
       asked_wider = subst (λ t. Fits (tree_asked a) t → ⊥) was (subst (λ u. Fits u (tree_in mid before.kind) → ⊥) is_asked h.1.1);
+    }
+
+    pub lead_apart : (ss : List Step) → LeadsIn mid before.kind j ss → LeadApart old a ss
+    lead_apart ss h = record {
+      at = at;
+      before = before;
+      beside = record { there = there; track = track };
+      apart = subst (λ t. Disagree ss t (tree_asked a)) was (subst (Disagree ss (tree_in mid before.kind)) is_asked h);
     }

@@ -15,18 +15,20 @@ use Rattle.wac_types_base.proofs.Standing.{world_found, module_found}
 use Rattle.wac_types_base.proofs.Slots.{stands_typed_world, stands_typed_module}
 use Rattle.wac_types_base.proofs.Telling.{item_kind}
 use Rattle.wac_types_fit.specs.declared.errors.SubtypeError.{SubtypeError}
+use Rattle.wac_types_base.specs.declared.item.ExternKind.{ExternKind}
+use Rattle.wac_types_fit.specs.Frames.{Step, Disagree}
 use Rattle.wac_types_fit.specs.Errors.{IfMismatch}
-use Rattle.wac_types_merge.specs.Errors.{IfClash}
+use Rattle.wac_types_merge.specs.Errors.{IfClash, IfLeads}
 use Rattle.wac_types_fit.specs.Ordered.{InOrder}
 use Rattle.wac_types_fit.specs.Lookups.{lookup}
 use Rattle.wac_types_fit.specs.Meets.{IsPlain, ArePlain, Clash}
 use Rattle.wac_types_fit.specs.Trees.{tree_in}
-use Rattle.wac_types_fit.specs.Checking.{IsFlat}
+use Rattle.wac_types_fit.specs.Checking.{IsFlat, NameDisagrees, name_differs, ItemsDisagree}
 use Rattle.wac_types_fit.proofs.Looking.{looked-has, has-looked, in_order-at, given}
 use Rattle.wac_types_fit.proofs.Items.{looked_in}
 use Rattle.wac_types_fit.proofs.ItemKinds.{flat_is, fits_kind, kind_is, not_instance, not_type, not_interface_type, types_are_types, is_type, flat_fits}
 use Rattle.wac_types_fit.proofs.Unfolded.{fields_in, instance_tree, component_tree, module_tree, type_world, type_module}
-use Rattle.wac_types_merge.specs.Interfaces.{IsAt, ClashIn, ClashUnlessFit, OtherClash, ItemsClash}
+use Rattle.wac_types_merge.specs.Interfaces.{IsAt, ClashIn, ClashUnlessFit, OtherClash, ItemsClash, LeadsIn, OtherLeads}
 use Rattle.wac_types_merge.proofs.Grown.{tree_kept}
 
 -- ---- trees without parts
@@ -129,3 +131,24 @@ clash_of (Err e) P h = h
 pub clash_at : (c d : Collection) (es fs : List (Name × ItemKind)) (n : Name) (k : ItemKind) (o : Option ItemKind) → Grows c d → value_at es n ≡ Some k → o ≡ value_at fs n → Stands c k → SlotStands c o → OtherClash d k o → ItemsClash c es fs
 clash_at c d es fs n k None g e f s r h = absurd h
 clash_at c d es fs n k (Some j) g e f s r h = record { name = n; first = k; second = j; first_at = e; second_at = sym f; clash = clash_before c d g k j s r h }
+
+-- ---- where the steps lead
+
+pub leads_of : (r : Result ⊤ SubtypeError) (P : List Step → Type 0) → IfMismatch r P → IfLeads r P
+leads_of (Ok x) P h = tt
+leads_of (Err e) P h = h
+
+-- steps in a grown collection lead there in the collection before
+leads_before : (c d : Collection) → Grows c d → (j k : ItemKind) → Stands c j → Stands c k → (ss : List Step) → LeadsIn d j k ss → LeadsIn c j k ss
+leads_before c d g j k s r ss h = subst (λ t. Disagree ss t (tree_in c k)) (tree_kept c d g j s) (subst (Disagree ss (tree_in d j)) (tree_kept c d g k r) h)
+
+-- through the export of a name
+pub leads_at : (c d : Collection) (es fs : List (Name × ItemKind)) (n : Name) (k : ItemKind) (o : Option ItemKind) → Grows c d → value_at es n ≡ Some k → o ≡ value_at fs n → Stands c k → SlotStands c o
+    → (ss : List Step) → OtherLeads d n k o ss → ItemsDisagree ExternKind.Export c es c fs ss
+leads_at c d es fs n k None g e f s r ss h = absurd h
+leads_at c d es fs n k (Some j) g e f s r ss h = record {
+  name = n;
+  kind = j;
+  asked = sym f;
+  disagrees = subst (NameDisagrees ExternKind.Export c es c n j) (sym h.1) (name_differs k h.0 e (leads_before c d g k j s r h.0 h.2));
+}

@@ -23,7 +23,7 @@ use Rattle.wac_types_merge.specs.declared.errors.AggregateError.{AggregateError}
 use Rattle.wac_types_merge.specs.declared.family.Family.{Family}
 use Rattle.wac_types_merge.specs.declared.family.Import.{Import}
 use Rattle.wac_types_merge.specs.Families.{joint}
-use Rattle.wac_types_merge.specs.Errors.{Refuses}
+use Rattle.wac_types_merge.specs.Errors.{Refuses, LeadsTo}
 use Rattle.wac_types_merge.specs.United.{UnitesIn}
 use Rattle.wac_types_merge.specs.Imports.{IsGreater, IsNarrower, NeitherFits, spelled_if, KeepsNarrower}
 use Rattle.wac_types_merge.specs.Interfaces.{MeetIn, ClashIn}
@@ -43,6 +43,19 @@ refused_as (AggregateError.Incompatible f) P P' Q Q' R R' p q r h = p h
 refused_as AggregateError.OutsideFamilies P P' Q Q' R R' p q r h = q h
 refused_as AggregateError.UsedWithoutIdentifier P P' Q Q' R R' p q r h = r h
 refused_as AggregateError.Memory P P' Q Q' R R' p q r h = tt
+
+-- other words for where it leads
+pub leads_as : (e : AggregateError) (P Q : List Step → Type 0) → LeadsTo e P → ((ss : List Step) → P ss → Q ss) → LeadsTo e Q
+leads_as (AggregateError.Incompatible f) P Q h p = (h.0, h.1, p h.0 h.2)
+leads_as AggregateError.OutsideFamilies P Q h p = tt
+leads_as AggregateError.UsedWithoutIdentifier P Q h p = tt
+leads_as AggregateError.Memory P Q h p = tt
+
+pub leads_nowhere : (e : AggregateError) (P : List Step → Type 0) (Q R : Type 0) → Refuses e ⊥ Q R → LeadsTo e P
+leads_nowhere (AggregateError.Incompatible f) P Q R h = absurd h
+leads_nowhere AggregateError.OutsideFamilies P Q R h = tt
+leads_nowhere AggregateError.UsedWithoutIdentifier P Q R h = tt
+leads_nowhere AggregateError.Memory P Q R h = tt
 
 pub outside_refused : (c : Collection) (f : Family) (a b : ItemKind) (e : AggregateError) → f ≡ Family.Neither → Refuses e ⊥ (NeitherFits c a b) ⊥ → Refuses e (HasClash c f a b) (LieOutside c f a b) ⊥
 outside_refused c f a b e is h = refused_as e ⊥ (HasClash c f a b) (NeitherFits c a b) (LieOutside c f a b) ⊥ ⊥ (λ x. absurd x) (λ n. (is, n)) (λ x. x) h

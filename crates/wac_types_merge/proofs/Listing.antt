@@ -25,7 +25,8 @@ use Rattle.wac_types_merge.specs.declared.family.Family.{Family}
 use Rattle.wac_types_merge.specs.declared.family.Import.{Import}
 use Rattle.wac_types_merge.specs.Families.{HasMore, IsUnplain, IsPlainItem, IsWitInterface, IsWitItem, joint}
 use Rattle.wac_types_merge.specs.Imports.{Imports, AreSound, AreApart, IsIdentified}
-use Rattle.wac_types_merge.specs.Merging.{Ask, tree_asked, HasFamily, FirstAsked, AskedAgain, IsAsked, IsRefused}
+use Rattle.wac_types_merge.specs.Errors.{LeadsTo}
+use Rattle.wac_types_merge.specs.Merging.{Ask, tree_asked, HasFamily, FirstAsked, AskedAgain, IsAsked, IsRefused, LeadApart}
 use Rattle.wac_types_merge.specs.Lists.{AllPlain, AllWit, LieIn, IsImportOf, Merges, none_yet, AreAsked, one_more_asked, Lent, ask_of, asks_of, AsksStand, IsListRefused}
 use Rattle.wac_types_merge.proofs.Grown.{tree_kept, stated_kept, copied_tree}
 use Rattle.wac_types_merge.proofs.Tracks.{not_later, greater_before, greater_asked, greater_still, greater_than_asked, on_track_with, same_or_not, one_place, Elsewhere, set_among, set_there, other_there}
@@ -250,8 +251,8 @@ split_list [] i x e = absurd (cc e)
 split_list (y ∷ xs) zero x e = ap (λ z. z ∷ xs) (cc e)
 split_list (y ∷ xs) (suc i) x e = let n : suc i + 1 ≡ suc (i + 1) = omega arith in rw n (ap (λ l. y ∷ l) (split_list xs i x e))
 
-pub list_refused : (n : ℕ) (xs : List Lent) (i : ℕ) (x : Lent) (g : Imports) (e : AggregateError) → slice_get xs i ≡ Some x → AreAsked (none_yet n) (asks_of (take i xs)) g → Merges (asks_of (take i xs)) g → IsRefused g (ask_of x) e → IsListRefused n (asks_of xs) e
-list_refused n xs i x g e at asked h r = record {
+pub list_refused : (n : ℕ) (xs : List Lent) (i : ℕ) (x : Lent) (g : Imports) (e : AggregateError) → slice_get xs i ≡ Some x → AreAsked (none_yet n) (asks_of (take i xs)) g → Merges (asks_of (take i xs)) g → IsRefused g (ask_of x) e → LeadsTo e (LeadApart g (ask_of x)) → IsListRefused n (asks_of xs) e
+list_refused n xs i x g e at asked h r f = record {
   before = asks_of (take i xs);
   ask = ask_of x;
   rest = asks_of (drop (i + 1) xs);
@@ -260,6 +261,7 @@ list_refused n xs i x g e at asked h r = record {
   asked = asked;
   merged = h;
   refused = r;
+  frames = f;
 }
 
 pub next_merged : (xs : List Lent) (i : ℕ) (x : Lent) (old new : Imports) → slice_get xs i ≡ Some x → AreSound old → AreSound new → Merges (asks_of (take i xs)) old → IsAsked old (ask_of x) new → Merges (asks_of (take (i + 1) xs)) new

@@ -12,6 +12,8 @@ use Rattle.wac_types_base.specs.Graph.{node}
 use Rattle.wac_types_base.specs.Stated.{Stated, stated_of, identifier_of}
 use Rattle.wac_types_fit.specs.Trees.{tree_in, Fit, IsInside}
 use Rattle.wac_types_fit.specs.Meets.{IsMeet, IsPlain, Clash}
+use Rattle.wac_types_base.specs.declared.item.ExternKind.{ExternKind}
+use Rattle.wac_types_fit.specs.Frames.{Step, Disagree}
 
 -- the entry, where the map does not have its name
 abbrev pub if_new : {T : Type 0} → List (Name × T) → Name → T → List (Name × T)
@@ -96,3 +98,12 @@ pub record ItemsClash (c : Collection) (es fs : List (Name × ItemKind)) : Type 
   pub first_at : value_at es name ≡ Some first
   pub second_at : value_at fs name ≡ Some second
   pub clash : ClashIn c first second
+
+-- the steps lead to where the trees of a and b disagree
+abbrev pub LeadsIn : Collection → ItemKind → ItemKind → List Step → Type 0
+LeadsIn c a b ss = Disagree ss (tree_in c a) (tree_in c b)
+
+-- they lead through the export of this name
+abbrev pub OtherLeads : Collection → Name → ItemKind → Option ItemKind → List Step → Type 0
+OtherLeads c n a None ss = ⊥
+OtherLeads c n a (Some b) ss = (rest : List Step) × (ss ≡ (ExternKind.Export, n) ∷ rest) × LeadsIn c a b rest

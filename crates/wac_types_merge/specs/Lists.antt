@@ -15,7 +15,8 @@ use Rattle.wac_types_merge.specs.declared.family.Family.{Family}
 use Rattle.wac_types_merge.specs.declared.family.Import.{Import}
 use Rattle.wac_types_merge.specs.Families.{IsPlainItem, IsWitItem}
 use Rattle.wac_types_merge.specs.Imports.{Imports, AreApart, IsIdentified, imports_in}
-use Rattle.wac_types_merge.specs.Merging.{Ask, ask_for, tree_asked, IsAsked, IsRefused}
+use Rattle.wac_types_merge.specs.Errors.{LeadsTo}
+use Rattle.wac_types_merge.specs.Merging.{Ask, ask_for, tree_asked, IsAsked, IsRefused, LeadApart}
 
 abbrev pub AllPlain : List Ask → Type 0
 AllPlain on = (a : Ask) → Among a on → IsPlainItem a.types a.kind
@@ -79,3 +80,4 @@ pub record IsListRefused (number : ℕ) (asks : List Ask) (e : AggregateError) :
   pub asked : AreAsked (none_yet number) before so_far
   pub merged : Merges before so_far
   pub refused : IsRefused so_far ask e
+  pub frames : LeadsTo e (LeadApart so_far ask)

@@ -12,6 +12,7 @@ use Rattle.wac_types_base.specs.Fits.{Fits}
 use Rattle.wac_types_names.specs.Tracks.{lookup_key, AreCompatible}
 use Rattle.wac_types_fit.specs.Trees.{tree_in}
 use Rattle.wac_types_fit.specs.Meets.{IsMeet, Clash}
+use Rattle.wac_types_fit.specs.Frames.{Step, Disagree}
 use Rattle.wac_types_merge.specs.declared.errors.AggregateError.{AggregateError}
 use Rattle.wac_types_merge.specs.declared.family.Family.{Family}
 use Rattle.wac_types_merge.specs.declared.family.Import.{Import}
@@ -98,6 +99,13 @@ pub record AreOutside (old : Imports) (a : Ask) : Type 0 where
   pub no_family : joint before.family own_family ≡ Family.Neither
   pub kept_wider : Fits (tree_in old.types before.kind) (tree_asked a) → ⊥
   pub asked_wider : Fits (tree_asked a) (tree_in old.types before.kind) → ⊥
+
+-- the steps lead to where what is kept on the ask's track and what is asked disagree
+pub record LeadApart (old : Imports) (a : Ask) (ss : List Step) : Type 0 where
+  pub at : ℕ
+  pub before : Import
+  pub beside : IsBeside old.kept a at before
+  pub apart : Disagree ss (tree_in old.types before.kind) (tree_asked a)
 
 -- why an ask is refused
 abbrev pub IsRefused : Imports → Ask → AggregateError → Type 0

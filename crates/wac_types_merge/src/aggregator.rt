@@ -5,7 +5,8 @@ ghost use Rattle.std.specs.Slice.Iter.{iter_rest};
 ghost use Rattle.std.specs.Iterator.Adapters.{IterYieldsInOrder};
 ghost use Rattle.wac_types_base.specs.Collection.{Stands, empty};
 ghost use Rattle.wac_types_merge.specs.Imports.{AreSound, IsCanonical, import_of, imports_in};
-ghost use Rattle.wac_types_merge.specs.Merging.{ask_for, IsAsked, IsRefused};
+ghost use Rattle.wac_types_merge.specs.Errors.{LeadsTo};
+ghost use Rattle.wac_types_merge.specs.Merging.{ask_for, IsAsked, IsRefused, LeadApart};
 ghost use Rattle.wac_types_merge.specs.Lists.{Merges, AreAsked, none_yet, asks_of, AsksStand, IsListRefused};
 
 use crate::errors::AggregateError;
@@ -92,6 +93,7 @@ impl TypeAggregator {
         ensures sound { AreSound self }
         ensures sound_after { IfOk result AreSound }
         ensures refused { IfErr result (IsRefused self (ask_for name.now types.now kind)) }
+        ensures frames { IfErr result (λ e. LeadsTo e (LeadApart self (ask_for name.now types.now kind))) }
         ensures cache { checker.new.cache.now ≡ checker.old.cache.now }
         ensures directions { checker.new.directions ≡ checker.old.directions }
         ensures same_reference { checker.new.cache.ghost_name ≡ checker.old.cache.ghost_name }
@@ -139,6 +141,8 @@ fn take_ask(
         (imports_in own.new imports.new.items)) }
     ensures sound { OnOk result (AreSound (imports_in own.new imports.new.items)) }
     ensures refused { IfErr result (IsRefused (imports_in own.old imports.old.items) (ask_for name.now types.now kind)) }
+    ensures frames { IfErr result
+        (λ e. LeadsTo e (LeadApart (imports_in own.old imports.old.items) (ask_for name.now types.now kind))) }
 {
     types.see_acyclic();
     own.see_acyclic();
@@ -174,6 +178,7 @@ impl TypeAggregator {
         ensures sound { AreSound self }
         ensures sound_after { IfOk result AreSound }
         ensures refused { IfErr result (IsRefused self (ask_for name.now types.now kind)) }
+        ensures frames { IfErr result (λ e. LeadsTo e (LeadApart self (ask_for name.now types.now kind))) }
     {
         let TypeAggregator {
             types: mut own,

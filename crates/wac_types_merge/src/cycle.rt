@@ -2,14 +2,15 @@
 
 ghost use Rattle.std.specs.Prelude.{◌≡◌, ◌++◌, [], ◌∷◌, IfOk, OnOk};
 ghost use Rattle.wac_types_base.specs.declared.item.ItemKind.{ItemKind};
+ghost use Rattle.wac_types_base.specs.declared.item.ExternKind.{ExternKind};
 ghost use Rattle.wac_types_base.specs.Entries.{IsNew};
 ghost use Rattle.wac_types_base.specs.Collection.{Stands, Grows};
 ghost use Rattle.wac_types_fit.specs.Trees.{IsInside};
-ghost use Rattle.wac_types_fit.specs.Checking.{AreInside};
-ghost use Rattle.wac_types_merge.specs.Errors.{IfClash};
+ghost use Rattle.wac_types_fit.specs.Checking.{AreInside, ItemsDisagree};
+ghost use Rattle.wac_types_merge.specs.Errors.{IfClash, IfLeads};
 ghost use Rattle.wac_types_base.specs.declared.defined.Interface.{Interface as InterfaceData};
 ghost use Rattle.wac_types_merge.specs.United.{UnitesIn, OtherUnites, ItemsUnite, InterfacesUnite};
-ghost use Rattle.wac_types_merge.specs.Interfaces.{IsAt, MeetIn, ClashIn, ClashUnlessFit, JoinedIn, OtherClash, SlotInside, AreJoined, ItemsClash};
+ghost use Rattle.wac_types_merge.specs.Interfaces.{IsAt, MeetIn, ClashIn, ClashUnlessFit, JoinedIn, OtherClash, SlotInside, AreJoined, ItemsClash, LeadsIn, OtherLeads};
 
 use crate::exports::add_joined;
 use crate::narrower::fits_in;
@@ -33,6 +34,7 @@ fn unmerged(alloc: Global, own: &Types, a: ItemKind, b: ItemKind) -> Result<Item
     ensures first { IfOk result (λ k. k ≡ a) }
     ensures met { IfOk result (MeetIn own.now a b own.now) }
     ensures clash { IfClash result (ClashIn own.now a b) }
+    ensures frames { IfLeads result (LeadsIn own.now a b) }
 {
     fits_in(alloc, own, a, b)?;
     Ok(a)
@@ -51,6 +53,7 @@ pub(crate) fn merge(
     ensures met { IfOk result (MeetIn own.old a b own.new) }
     ensures united { IfOk result (UnitesIn own.old a b own.new) }
     ensures clash { IfClash result (ClashIn own.old a b) }
+    ensures frames { IfLeads result (LeadsIn own.old a b) }
     ensures grows { Grows own.old own.new }
 {
     own.see_acyclic();
@@ -78,6 +81,7 @@ fn merge_types(alloc: Global, own: &mut Types, a: Type, b: Type) -> Result<ItemK
     ensures met { IfOk result (MeetIn own.old (ItemKind.Ty a) (ItemKind.Ty b) own.new) }
     ensures united { IfOk result (UnitesIn own.old (ItemKind.Ty a) (ItemKind.Ty b) own.new) }
     ensures clash { IfClash result (ClashIn own.old (ItemKind.Ty a) (ItemKind.Ty b)) }
+    ensures frames { IfLeads result (LeadsIn own.old (ItemKind.Ty a) (ItemKind.Ty b)) }
     ensures grows { Grows own.old own.new }
 {
     own.see_acyclic();
@@ -107,6 +111,7 @@ fn merge_instances(
     ensures united { IfOk result
         (λ i. (x y : InterfaceData) → IsAt own.old a x → IsAt own.old b y → InterfacesUnite own.old x y own.new i) }
     ensures clash { IfClash result (ClashIn own.old (ItemKind.Instance a) (ItemKind.Instance b)) }
+    ensures frames { IfLeads result (LeadsIn own.old (ItemKind.Instance a) (ItemKind.Instance b)) }
     ensures grows { Grows own.old own.new }
 {
     own.see_acyclic();
@@ -134,6 +139,7 @@ fn merge_copies(
     ensures met { IfOk result (λ i. MeetIn own.old (ItemKind.Instance a) (ItemKind.Instance b) own.new (ItemKind.Instance i)) }
     ensures united { IfOk result (InterfacesUnite own.old first.now second.now own.new) }
     ensures clash { IfClash result (ClashIn own.old (ItemKind.Instance a) (ItemKind.Instance b)) }
+    ensures frames { IfLeads result (LeadsIn own.old (ItemKind.Instance a) (ItemKind.Instance b)) }
     ensures grows { Grows own.old own.new }
 {
     own.see_acyclic();
@@ -184,6 +190,7 @@ fn merge_items(
     ensures joined { IfOk result (AreJoined own.old asked.now own.new kept.now) }
     ensures united { IfOk result (ItemsUnite own.old asked.now own.new kept.now) }
     ensures clash { IfClash result (ItemsClash own.old kept.now asked.now) }
+    ensures frames { IfLeads result (ItemsDisagree ExternKind.Export own.old kept.now own.old asked.now) }
     ensures grows { Grows own.old own.new }
 {
     own.see_acyclic();
@@ -212,6 +219,7 @@ fn merge_item(
     ensures joined { IfOk result (JoinedIn own.old kind other own.new) }
     ensures united { IfOk result (OtherUnites own.old kind other own.new) }
     ensures clash { IfClash result (OtherClash own.old kind other) }
+    ensures frames { IfLeads result (OtherLeads own.old name.now kind other) }
     ensures grows { Grows own.old own.new }
 {
     own.see_acyclic();

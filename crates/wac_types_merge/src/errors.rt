@@ -1,7 +1,7 @@
 //! Why an ask is refused.
 
-ghost use Rattle.std.specs.Prelude.{IsSome};
-ghost use Rattle.wac_types_merge.specs.Errors.{Refuses};
+ghost use Rattle.std.specs.Prelude.{◌≡◌, Some, IsSome};
+ghost use Rattle.wac_types_merge.specs.Errors.{Refuses, LeadsTo};
 ghost use Rattle.wac_types_fit.specs.Errors.{steps_of};
 
 use std::alloc::AllocError;
@@ -53,7 +53,8 @@ impl Error for AggregateError {}
 
 /// The refusal of a merge that failed.
 pub(crate) fn incompatible(fault: SubtypeError) -> AggregateError
-    ensures { Refuses result (IsSome (steps_of fault)) ⊥ ⊥ }
+    ensures refused { Refuses result (IsSome (steps_of fault)) ⊥ ⊥ }
+    ensures frames { LeadsTo result (λ ss. steps_of fault ≡ Some ss) }
 {
     match fault {
         SubtypeError::Memory => AggregateError::Memory,

@@ -6,9 +6,9 @@ ghost use Rattle.wac_types_base.specs.declared.item.ItemKind.{ItemKind};
 ghost use Rattle.wac_types_base.specs.Collection.{Stands, Grows};
 ghost use Rattle.wac_types_names.specs.Tracks.{lookup_key, AreCompatible, IsLater, key_view};
 ghost use Rattle.wac_types_names.specs.Versions.{version_cmp};
-ghost use Rattle.wac_types_merge.specs.Errors.{Refuses};
+ghost use Rattle.wac_types_merge.specs.Errors.{Refuses, LeadsTo};
 ghost use Rattle.wac_types_merge.specs.Families.{joint};
-ghost use Rattle.wac_types_merge.specs.Interfaces.{MeetIn};
+ghost use Rattle.wac_types_merge.specs.Interfaces.{MeetIn, LeadsIn};
 ghost use Rattle.wac_types_merge.specs.United.{UnitesIn};
 ghost use Rattle.wac_types_merge.specs.Imports.{IsPlace, IsGreater, IsSpelled, IsSpelledIf, IsNarrower};
 ghost use Rattle.wac_types_merge.specs.Steps.{HasClash, LieOutside, IsMerged, IsSpelledImport};
@@ -118,6 +118,7 @@ pub fn kept_of(
     ensures narrower { IfOk result (λ k. family ≡ Family.Neither → IsNarrower own.old kept asked k) }
     ensures refused { IfErr result
         (λ e. Refuses e (HasClash own.old family kept asked) (LieOutside own.old family kept asked) ⊥) }
+    ensures frames { IfErr result (λ e. LeadsTo e (LeadsIn own.old kept asked)) }
     ensures grows { Grows own.old own.new }
 {
     own.see_acyclic();
@@ -185,6 +186,7 @@ pub(crate) fn merged_import(
     ensures merged { IfOk result (IsMerged own.old before.now name.now asked family own.new) }
     ensures refused { IfErr result (λ e. Refuses e (HasClash own.old (joint before.now.family family) before.now.kind asked)
         (LieOutside own.old (joint before.now.family family) before.now.kind asked) ⊥) }
+    ensures frames { IfErr result (λ e. LeadsTo e (LeadsIn own.old before.now.kind asked)) }
     ensures grows { OnOk result (Grows own.old own.new) }
 {
     let both = joint_family(before.family, family);

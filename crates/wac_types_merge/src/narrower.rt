@@ -3,7 +3,8 @@
 ghost use Rattle.std.specs.Prelude.{IfOk, IfErr, OnOk};
 ghost use Rattle.wac_types_base.specs.Collection.{Stands};
 ghost use Rattle.wac_types_fit.specs.Trees.{Fit};
-ghost use Rattle.wac_types_merge.specs.Errors.{IfClash, Refuses};
+ghost use Rattle.wac_types_merge.specs.Errors.{IfClash, IfLeads, Refuses};
+ghost use Rattle.wac_types_merge.specs.Interfaces.{LeadsIn};
 ghost use Rattle.wac_types_merge.specs.Imports.{IsNarrower, NeitherFits};
 
 use crate::errors::AggregateError;
@@ -22,6 +23,7 @@ pub(crate) fn fits_in(
     requires asked { Stands own.now b }
     ensures yes { OnOk result (Fit own.now a own.now b) }
     ensures no { IfClash result (Fit own.now a own.now b → ⊥) }
+    ensures frames { IfLeads result (LeadsIn own.now a b) }
 {
     let mut cache = new_cache(alloc);
     let mut checker = SubtypeChecker::new(alloc, &mut cache);

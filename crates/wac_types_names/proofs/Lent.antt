@@ -17,7 +17,7 @@ place_is p ks i e = by (nat_lt (position_or_len p ks) (length ks)) e
 
 module _ {K V : Type 0} where
   pub kept-set : (ss : List Spelling) (es : List (K × V)) (i : ℕ) (w : V) → IsKept ss es → IsKept ss (set_value_at es i w)
-  kept-set ss es i w h = record { lengths = h.lengths ∙ sym (length-set_value_at es i w); read = h.read; distinct = h.distinct }
+  kept-set ss es i w h = record { lengths = h.lengths ∙ sym (length-set_value_at es i w); read = h.read }
 
   one_more : (es : List (K × V)) (e : K × V) (n : ℕ) (w : V) → set_value_at (e ∷ es) (1 + n) w ≡ e ∷ set_value_at es n w
   one_more es e n w =

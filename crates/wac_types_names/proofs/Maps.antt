@@ -4,14 +4,14 @@ use Rattle.std.specs.Prelude.{Option, Some, None, is_some, if◌then◌else◌, 
 use Rattle.std.specs.Prelude.{◌==◌}
 use Rattle.std.specs.Cmp.Lexicographic.{pointwise}
 use Rattle.std.proofs.lemmas.Slice.Eq.{bytes_eq-Decides}
-use Rattle.std.specs.Map.{lookup}
-use Rattle.std.specs.List.{AllByRecursion}
+use Rattle.std.specs.Map.{lookup, keys_of}
+use Rattle.std.specs.List.{AllByRecursion, IsDistinct}
 use Rattle.indexmap.specs.IndexMap.{insert_entry}
 use Rattle.wac_types_base.specs.Graph.{Among}
 use Rattle.wac_types_base.specs.Entries.{Name, IsNew, names_of, put_entry, AreDistinct}
 use Rattle.wac_types_base.proofs.Looked.{put_entry-new}
 use Rattle.wac_types_names.specs.declared.spelling.Spelling.{Spelling}
-use Rattle.wac_types_names.specs.NameMaps.{Entry, by_name, by_key, KnowsKeys, KeysLast, put_value, IsExact}
+use Rattle.wac_types_names.specs.NameMaps.{Entry, by_name, by_key, KnowsKeys, HasOneKey, KeysLast, put_value, IsExact}
 use Rattle.wac_types_names.specs.Spellings.{entries_with, IsRead, IsKept}
 
 abbrev pub name_of : Spelling → Name
@@ -31,9 +31,6 @@ module _ {K V : Type 0} where
   names-entries_with [] (x ∷ es) e = absurd (omega arith)
   names-entries_with (s ∷ ss) [] e = absurd (omega arith)
   names-entries_with (s ∷ ss) (x ∷ es) e = ap (λ (t : List Name). s.name ∷ t) (names-entries_with ss es (omega arith))
-
-  pub distinct-entries_with : (ss : List Spelling) (es : List (K × V)) → IsKept ss es → AreDistinct (names_of (by_name (entries_with ss es)))
-  distinct-entries_with ss es k = subst AreDistinct (sym (names-entries_with ss es k.lengths)) k.distinct
 
   pub entries_with-append : (ss : List Spelling) (es : List (K × V)) (s : Spelling) (x : K × V) → length ss ≡ length es → entries_with (ss ++ s ∷ []) (es ++ x ∷ []) ≡ entries_with ss es ++ (s.name, x.0, x.1) ∷ []
   entries_with-append [] [] s x e = refl
@@ -71,7 +68,7 @@ module _ {K V : Type 0} where
         by false t n h = rw t (ap (λ (r : List (Entry K V)). (s.name, e.0, e.1) ∷ r) (h n))
 
     pub kept-insert : (ss : List Spelling) (es : List (K × V)) → IsKept ss es → is_some (lookup (eq k) es) ≡ true → IsKept ss (insert_entry eq es k v)
-    kept-insert ss es h n = record { lengths = h.lengths ∙ sym (length-insert_entry es n); read = h.read; distinct = h.distinct }
+    kept-insert ss es h n = record { lengths = h.lengths ∙ sym (length-insert_entry es n); read = h.read }
 
 -- ---- one more name
 
@@ -79,21 +76,10 @@ read_more : (ss : List Spelling) (s : Spelling) → AllByRecursion IsRead ss →
 read_more [] s h r = (r, tt)
 read_more (x ∷ ss) s h r = (h.0, read_more ss s h.1 r)
 
-not_last : (ss : List Spelling) (s : Spelling) (n : Name) → (Among n (map name_of ss) → ⊥) → (n ≡ s.name → ⊥) → Among n (map name_of (ss ++ s ∷ [])) → ⊥
-not_last [] s n h d (inl e) = d e
-not_last [] s n h d (inr a) = a
-not_last (x ∷ ss) s n h d (inl e) = h (inl e)
-not_last (x ∷ ss) s n h d (inr a) = not_last ss s n (λ b. h (inr b)) d a
-
-distinct_more : (ss : List Spelling) (s : Spelling) → AreDistinct (map name_of ss) → (Among s.name (map name_of ss) → ⊥) → AreDistinct (map name_of (ss ++ s ∷ []))
-distinct_more [] s d off = (λ a. a, tt)
-distinct_more (x ∷ ss) s d off = (not_last ss s x.name d.0 (λ e. off (inl (sym e))), distinct_more ss s d.1 (λ a. off (inr a)))
-
-pub kept-append : {K V : Type 0} (ss : List Spelling) (es : List (K × V)) (s : Spelling) (x : K × V) → IsKept ss es → IsRead s → IsNew s.name (by_name (entries_with ss es)) → IsKept (ss ++ s ∷ []) (es ++ x ∷ [])
-kept-append ss es s x h r off = record {
+pub kept-append : {K V : Type 0} (ss : List Spelling) (es : List (K × V)) (s : Spelling) (x : K × V) → IsKept ss es → IsRead s → IsKept (ss ++ s ∷ []) (es ++ x ∷ [])
+kept-append ss es s x h r = record {
   lengths = omega (arith, h.lengths, length-append ss (s ∷ []), length-append es (x ∷ []));
   read = read_more ss s h.read r;
-  distinct = distinct_more ss s h.distinct (λ a. off (subst (Among s.name) (sym (names-entries_with ss es h.lengths)) a));
 }
 
 -- ---- keys
@@ -108,6 +94,21 @@ keys_last old new (e ∷ es) l k = (l e.1 e.0 k.0, keys_last old new es l k.1)
 -- two keys are equal exactly where their texts are
 abbrev pub OneText : {K : Type 0} → (K → K → Bool) → (K → Option Name) → Type 0
 OneText {K} eq text = (k l : K) (s t : Name) → text k ≡ Some s → text l ≡ Some t → (eq k l ≡ true) ↔ (s ≡ t)
+
+-- no name stands twice where no key does
+module _ {K V : Type 0} (eq : K → K → Bool) (text : K → Option Name) (one : HasOneKey eq text) where
+  apart_name : (k : K) (n : Name) (es : List (Entry K V)) → text k ≡ Some n → KnowsKeys text es → AllByRecursion (λ l. eq k l ≡ false) (keys_of (by_key es)) → Among n (names_of (by_name es)) → ⊥
+  apart_name k n [] is known off at = at
+  apart_name k n (e ∷ es) is known off (inl same) = true_false (sym (one k e.1 n is (known.0 ∙ ap (λ (t : Name). Some t) (sym same))) ∙ off.0)
+    where
+      true_false : true ≡ false → ⊥
+      true_false e = cc e
+  apart_name k n (e ∷ es) is known off (inr at) = apart_name k n es is known.1 off.1 at
+
+  pub names_apart : (es : List (Entry K V)) → KnowsKeys text es → IsDistinct eq (keys_of (by_key es)) → AreDistinct (names_of (by_name es))
+  unfolding IsDistinct
+  names_apart [] known d = tt
+  names_apart (e ∷ es) known d = (apart_name e.1 e.0 es known.0 known.1 d.0, names_apart es known.1 d.1)
 
 module _ {K V : Type 0} (eq : K → K → Bool) (text : K → Option Name) (law : OneText eq text) (k : K) (n : Name) (is : text k ≡ Some n) where
   off_name : (e : Entry K V) → text e.1 ≡ Some e.0 → eq k e.1 ≡ false → n ≡ e.0 → ⊥

@@ -1,5 +1,5 @@
 -- Maps from names: what one gives for a name, and what contracts see of one.
-use Rattle.std.specs.Prelude.{◌≡◌, List, [], ◌∷◌, map, Option, Some, None, ◌↔◌, ◌≢◌, Bool, if◌then◌else◌}
+use Rattle.std.specs.Prelude.{◌≡◌, List, [], ◌∷◌, map, Option, Some, None, ◌↔◌, ◌≢◌, Bool, true, if◌then◌else◌}
 use Rattle.wac_types_base.specs.Entries.{Name, IsNew, names_of}
 use Rattle.wac_types_base.specs.Graph.{Among}
 use Rattle.wac_types_names.specs.Tracks.{ShareTrack, IsLater, IsOnTrack}
@@ -39,6 +39,10 @@ by_key es = map (λ e. (e.1, e.2)) es
 abbrev pub KnowsKeys : {K V : Type 0} → (K → Option Name) → List (Entry K V) → Type 0
 KnowsKeys text [] = Unit {0}
 KnowsKeys text (e ∷ es) = (text e.1 ≡ Some e.0) × KnowsKeys text es
+
+-- keys that stand for one text are equal
+abbrev pub HasOneKey : {K : Type 0} → (K → K → Bool) → (K → Option Name) → Type 0
+HasOneKey {K} eq text = (k l : K) (t : Name) → text k ≡ Some t → text l ≡ Some t → eq k l ≡ true
 
 -- each key that stood for a text still stands for it
 abbrev pub KeysLast : {K : Type 0} → (K → Option Name) → (K → Option Name) → Type 0

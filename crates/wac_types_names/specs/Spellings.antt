@@ -34,11 +34,10 @@ entries_with [] es = []
 entries_with (s ∷ ss) [] = []
 entries_with (s ∷ ss) (e ∷ es) = (s.name, e.0, e.1) ∷ entries_with ss es
 
--- one name for each entry, each with its track, no name twice
+-- one name for each entry, each with its track
 pub record IsKept {K V : Type 0} (ss : List Spelling) (es : List (K × V)) : Type 0 where
   pub lengths : length ss ≡ length es
   pub read : AllByRecursion IsRead ss
-  pub distinct : AreDistinct (map (λ (s : Spelling). s.name) ss)
 
 -- the version of what is kept, where it is on this track
 abbrev pub version_on : Name → Option (Name × Parts) → Option Parts

@@ -5,7 +5,7 @@ ghost use Rattle.std.specs.Map.{lookup};
 ghost use Rattle.std.specs.Map.Iter.{ShowsInOrder, deref_pair};
 ghost use Rattle.wac_types_base.specs.Entries.{Name, IsNew, names_of, put_entry, AreDistinct};
 ghost use Rattle.wac_types_base.specs.Graph.{Among};
-ghost use Rattle.wac_types_names.specs.NameMaps.{by_name, by_key, KnowsKeys, KeysLast, Gives, put_value, IsExact, IsLatestOn};
+ghost use Rattle.wac_types_names.specs.NameMaps.{by_name, by_key, KnowsKeys, HasOneKey, KeysLast, Gives, put_value, IsExact, IsLatestOn};
 
 use crate::spelling::{Spelling, latest_on};
 pub use crate::track::{alternate_lookup_key, are_semver_compatible};
@@ -143,8 +143,10 @@ impl<K: Eq + Hash, V> NameMap<K, V> {
     pub fn raw_iter(&self) -> Iter<'_, K, V>
         ensures rest { result ≡ by_key self.now }
         ensures runs { ShowsInOrder (deref_pair {K = K} {X = V}) }
-        ensures distinct { AreDistinct (names_of (by_name self.now)) }
+        ensures distinct { (text : K → Option Name) → HasOneKey K.eq text → KnowsKeys text self.now
+            → AreDistinct (names_of (by_name self.now)) }
     {
+        let _count = self.definitions.len();
         self.definitions.iter()
     }
 }
@@ -181,10 +183,9 @@ impl<K: Clone + Eq + Hash, V: Drop> NameMap<K, V> {
         Ok(())
     }
 
-    /// Adds a definition at the end, under a name and a key that are new.
+    /// Adds a definition at the end, under a name and a key that is new.
     fn append(&mut self, alloc: Global, name: &str, key: K, item: V) -> Result<(), NameMapError>
-        requires new_key { lookup (K.eq key) (by_key self.old) ≡ None }
-        requires new_name { IsNew name.now (by_name self.old) }
+        requires { lookup (K.eq key) (by_key self.old) ≡ None }
         ensures ok { OnOk result (self.new ≡ self.old ++ (name.now, key, item) ∷ []) }
         ensures err { OnErr result (self.new ≡ self.old) }
         ensures memory { IfErr result (λ e. e ≡ NameMapError.Memory) }
@@ -208,14 +209,15 @@ impl<K: Clone + Eq + Hash, V: Drop> NameMap<K, V> {
         allow_shadowing: bool,
         item: V,
     ) -> Result<K, NameMapError>
-        requires known { KnowsKeys (I.text_of cx.old) self.old }
-        ensures ok { OnOk result (by_name self.new ≡ put_entry (by_name self.old) name.now item) }
+        ensures ok { OnOk result (KnowsKeys (I.text_of cx.old) self.old
+            → by_name self.new ≡ put_entry (by_name self.old) name.now item) }
         ensures key { IfOk result (λ k. I.text_of cx.new k ≡ Some name.now) }
-        ensures fresh { OnOk result (allow_shadowing ≡ false → IsNew name.now (by_name self.old)) }
-        ensures duplicate { result ≡ Err NameMapError.Duplicate
+        ensures fresh { OnOk result (KnowsKeys (I.text_of cx.old) self.old
+            → allow_shadowing ≡ false → IsNew name.now (by_name self.old)) }
+        ensures duplicate { result ≡ Err NameMapError.Duplicate → KnowsKeys (I.text_of cx.old) self.old
             → (allow_shadowing ≡ false) × Among name.now (names_of (by_name self.old)) }
         ensures err { OnErr result (self.new ≡ self.old) }
-        ensures known { KnowsKeys (I.text_of cx.new) self.new }
+        ensures known { KnowsKeys (I.text_of cx.old) self.old → KnowsKeys (I.text_of cx.new) self.new }
         ensures lasting { KeysLast (I.text_of cx.old) (I.text_of cx.new) }
     {
         let key = cx.intern(alloc, name)?;
@@ -238,8 +240,8 @@ impl<K: Clone + Eq + Hash, V: Drop> NameMap<K, V> {
         name: &str,
         cx: &I,
     ) -> Result<Option<&V>, AllocError>
-        requires known { KnowsKeys (I.text_of cx.now) self.now }
-        ensures { IfOk result (λ o. IsExact (by_name self.now) name.now (option_copied o)) }
+        ensures { KnowsKeys (I.text_of cx.now) self.now
+            → IfOk result (λ o. IsExact (by_name self.now) name.now (option_copied o)) }
     {
         match cx.lookup(alloc, name)? {
             None => Ok(None),
@@ -254,8 +256,8 @@ impl<K: Clone + Eq + Hash, V: Drop> NameMap<K, V> {
         name: &str,
         cx: &I,
     ) -> Result<Option<&V>, AllocError>
-        requires known { KnowsKeys (I.text_of cx.now) self.now }
-        ensures { IfOk result (λ o. Gives (by_name self.now) name.now (option_copied o)) }
+        ensures { KnowsKeys (I.text_of cx.now) self.now
+            → IfOk result (λ o. Gives (by_name self.now) name.now (option_copied o)) }
     {
         if let Some(item) = self.exact(alloc, name, cx)? {
             return Ok(Some(item));

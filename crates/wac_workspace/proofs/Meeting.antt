@@ -32,7 +32,7 @@ use Rattle.wac_graph_core.specs.Graph.{Graph}
 use Rattle.wac_parser_resolve.specs.Meeting.{given_by, uses_are_named}
 use Rattle.wac_parser_resolve.specs.Targeting.{IsTarget}
 use Rattle.wac_parser_resolve.proofs.MeetingUses.{gives_same, uses_named, uses_unnamed}
-use Rattle.wac_workspace.specs.Targets.{IsExported, IsGiven, Meets}
+use Rattle.wac_workspace.specs.Targets.{IsExported, IsGiven, Meets, Reports}
 
 -- ---- those of a list that are so
 
@@ -235,6 +235,24 @@ module _ (c : Collection) (a : IsAcyclic c) (target world : WorldId) (target_sta
       let t = told the_target.value the_world.value the_target.at the_world.at in
       let refused : Tells t.0 (Err e) = subst (Tells t.0) is t.2 in
       refused.1 (told_nothing c a target world the_target.value the_world.value target_stands world_stands the_target.at the_target.own the_world.at the_world.own t.0 t.1 met)
+
+  pub reported_by : (e : Report) → answer ≡ Err e → Reports (stated_world c target) (stated_world c world) e
+  reported_by e is =
+      let t = told the_target.value the_world.value the_target.at the_world.at in
+      let refused : Tells t.0 (Err e) = subst (Tells t.0) is t.2 in
+      record {
+        types = c;
+        target_id = target;
+        target_states = refl;
+        target_entry = the_target.value;
+        target_there = the_target.at;
+        world_id = world;
+        world_states = refl;
+        world_entry = the_world.value;
+        world_there = the_world.at;
+        report = subst (λ (r : Report). IsReport c the_target.value the_world.value r) (sym refused.0) t.1;
+        some = subst (λ (r : Report). IsEmptyReport r → ⊥) (sym refused.0) refused.1;
+      }
 
 -- ---- copies
 

@@ -11,7 +11,7 @@ use Rattle.wac_workspace.specs.Resolving.{Handed, handed}
 use Rattle.wac_workspace.specs.Steps.{IsUnregistered}
 
 tried : (next : ℕ) (ps : Handed) (source : List ℕ) (define : Bool) (o : Output) → IsOutput next ps source define o → CanBeComposed next ps source define
-tried next ps source define o h = record { tree = h.tree; read = h.read; room = h.room; accepted = h.accepted }
+tried next ps source define o h = record { tree = h.tree; read = h.read; room = h.room; accepted = h.accepted; types = o.types; world = o.world; composed = h.composed }
 
 pub unregistered : (w : Held) (source : List ℕ) (options : EncodeOptions) (o : Output) (e : ComposeError) → options.define_components ≡ true → IsOutput w.next (handed w.packages) source options.define_components o → IsMeantBy (handed w.packages) source o.bytes.items → IsUnregistered w o e → IsRefused w source options e
 unregistered w source options o (error.Parse x) d h means f = absurd f

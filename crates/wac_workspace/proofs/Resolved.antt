@@ -21,6 +21,7 @@ use Rattle.wac_parser_resolve.specs.InTargets.{HoldsTarget}
 use Rattle.wac_parser_resolve.specs.Meeting.{resolved}
 use Rattle.wac_parser_resolve.specs.Resolved.{Places}
 use Rattle.wac_types_base.specs.Record.{Collection}
+use Rattle.wac_types_fit.specs.Targets.{Report}
 use Rattle.wac_parser_encode.specs.Meaning.{HasResolvedWorld, ImportsResolved, MeansResolved}
 use Rattle.wac_parser_encode.specs.Refused.{CanBeEncoded, HasNoCause, TellsCause, TellsFirst}
 use Rattle.wac_workspace.specs.Composing.{greatest, ImportsSaid, AreAscribedBytes, AreImportingBytes, IsImporting, IsMeant, MeansSaid}
@@ -30,7 +31,7 @@ use Rattle.wac_workspace.specs.declared.errors.ComposeError.TheVariants as error
 use Rattle.wac_workspace.specs.Faults.{IsResolving}
 use Rattle.wac_workspace.specs.Resolving.{FailsIf, Handed, Resolves, IsAccepted, IsComposition, IsGraphOf, IsLate, IsOfResolving, IsTargetUnmet, NamesFirst}
 use Rattle.wac_workspace.specs.Steps.{FailsIn, IsAfterwards, IsUnencoded, IsUnmet, MeetsTargetOf}
-use Rattle.wac_workspace.specs.Targets.{Meets, MeetsIf}
+use Rattle.wac_workspace.specs.Targets.{Meets, MeetsIf, Reports}
 
 -- a document that is resolved, and what it says has no cause
 ascribed_is : (define : Bool) (d : t.Document) (ps : Handed) (s : State × Option Stated) → resolved d ps ≡ Ok s → HasNoCause define true s.0 → IsAccepted (ascribed define d ps)
@@ -98,26 +99,33 @@ unencoded next options tested q e same room h = by e (late_tested options tested
 
 module _ (g : Graph) (at : Places) (options : EncodeOptions) where
   -- a target that is not met
-  pub target_unmet : (t : WorldId) (types : Collection) (world : WorldId) (e : ComposeError) → HasResolvedWorld g types world
+  pub target_unmet : (t : WorldId) (types : Collection) (world : WorldId) (e : ComposeError) → CanBeEncoded g options → HasResolvedWorld g types world
       → IsUnmet (stated_world g.types t) (stated_world types world) e → IsAfterwards g at (Some t) options e
-  target_unmet t types world (error.Parse x) states h = absurd h
-  target_unmet t types world error.NumbersExhausted states h = absurd h
-  target_unmet t types world (error.Resolution f) states h = absurd h
-  target_unmet t types world (error.Target r) states h = record { types = types; world = world; states = states; unmet = h }
-  target_unmet t types world error.KeyTaken states h = absurd h
-  target_unmet t types world error.BytesTaken states h = absurd h
-  target_unmet t types world error.Memory states h = tt
+  target_unmet t types world (error.Parse x) free states h = absurd h
+  target_unmet t types world error.NumbersExhausted free states h = absurd h
+  target_unmet t types world (error.Resolution f) free states h = absurd h
+  target_unmet t types world (error.Target r) free states h = record { free = free; types = types; world = world; states = states; unmet = h.0; reports = h.1 }
+  target_unmet t types world error.KeyTaken free states h = absurd h
+  target_unmet t types world error.BytesTaken free states h = absurd h
+  target_unmet t types world error.Memory free states h = tt
 
 -- ---- the target of a document, and that of its graph
 
 module _ (d : t.Document) (ps : Handed) (g : Graph) (at : Places) (s : State) (built : IsBuilt g at s) where
-  failing : (o : Option Stated) (t : Option WorldId) → resolved d ps ≡ Ok (s, o) → HoldsTarget g.types o t → FailsIn g t → FailsIf s o
-  unfolding HasResolvedWorld
-  failing None None is held f = absurd f
-  failing None (Some t) is held f = absurd held
-  failing (Some w) None is held f = absurd held
-  failing (Some w) (Some t) is held f =
-      record { types = f.types; world = f.world; states = f.states d ps (s, Some w) at is built; unmet = subst (λ (x : Stated). Meets x (stated_world f.types f.world) → ⊥) held.same f.unmet }
+  failing : (options : EncodeOptions) → options.validate ≡ true → (r : Report) (o : Option Stated) (t : Option WorldId) → resolved d ps ≡ Ok (s, o) → HoldsTarget g.types o t → FailsIn g options r t
+      → FailsIf options.define_components r s o
+  unfolding HasResolvedWorld CanBeEncoded
+  failing options validate r None None is held f = absurd f
+  failing options validate r None (Some t) is held f = absurd held
+  failing options validate r (Some w) None is held f = absurd held
+  failing options validate r (Some w) (Some t) is held f = record {
+    free = subst (λ (v : Bool). HasNoCause options.define_components v s) validate (f.free at d ps (s, Some w) is built);
+    types = f.types;
+    world = f.world;
+    states = f.states d ps (s, Some w) at is built;
+    unmet = subst (λ (x : Stated). Meets x (stated_world f.types f.world) → ⊥) held.same f.unmet;
+    reports = subst (λ (x : Stated). Reports x (stated_world f.types f.world) r) held.same f.reports;
+  }
 
 meeting : (g : Graph) (types : Collection) (world : WorldId) (o : Option Stated) (t : Option WorldId) → HoldsTarget g.types o t → MeetsTargetOf g t types world → MeetsIf o (stated_world types world)
 meeting g types world None None held m = tt
@@ -135,7 +143,7 @@ module _ {B : Type 0} (graph : B → Graph) (places : B → Places) (target : B 
   late_of d ps b options error.NumbersExhausted validate (Ok s) is built h = absurd h
   late_of d ps b options (error.Resolution f) validate (Ok s) is built h =
       subst (λ (v : Bool). TellsCause (record options { validate = v }) s.0 (cause_of f)) validate (h d ps s is built.0)
-  late_of d ps b options (error.Target r) validate (Ok s) is built h = failing d ps (graph b) (places b) s.0 built.0 s.1 (target b) is built.1 h
+  late_of d ps b options (error.Target r) validate (Ok s) is built h = failing d ps (graph b) (places b) s.0 built.0 options validate r s.1 (target b) is built.1 h
   late_of d ps b options error.KeyTaken validate (Ok s) is built h = absurd h
   late_of d ps b options error.BytesTaken validate (Ok s) is built h = absurd h
   late_of d ps b options error.Memory validate (Ok s) is built h = tt

@@ -2,7 +2,9 @@
 use Rattle.std.specs.Prelude.{◌≡◌, ℕ, ◌+◌, ◌<◌, ◌≤◌, List, Bool, true, false, Ok, Err, string_bytes}
 use Rattle.std.specs.Option.{option_map}
 use Rattle.semver.specs.Identifiers.{parts_of}
+use Rattle.wac_types_base.specs.declared.ids.WorldId.{WorldId}
 use Rattle.wac_types_base.specs.declared.item.ItemKind.{ItemKind}
+use Rattle.wac_types_base.specs.Record.{Collection}
 use Rattle.wac_types_base.specs.Collection.{Stands}
 use Rattle.wac_types_names.specs.Keys.{Key}
 use Rattle.wac_graph_core.specs.Graph.{Graph}
@@ -89,8 +91,8 @@ pub record IsMeantBy (ps : Handed) (source : List ℕ) (bytes : List ℕ) : Type
   pub read : IsDocument source tree
   pub meant : IsMeant (resolved tree ps) bytes
 
-unfoldable pub MeansSource : EncodeOptions → Handed → List ℕ → List ℕ → Type 0
-MeansSource options ps source bytes = options.define_components ≡ true → IsMeantBy ps source bytes
+unfoldable pub MeansSource : (define : Bool) → Handed → List ℕ → List ℕ → Type 0
+MeansSource define ps source bytes = define ≡ true → IsMeantBy ps source bytes
 
 -- ---- with packages imported
 
@@ -115,14 +117,16 @@ pub record IsImportingBy (ps : Handed) (source : List ℕ) (bytes : List ℕ) : 
   pub read : IsDocument source tree
   pub imported : IsImporting (resolved tree ps) bytes
 
-unfoldable pub ImportsSource : EncodeOptions → Handed → List ℕ → List ℕ → Type 0
-ImportsSource options ps source bytes = options.define_components ≡ false → IsImportingBy ps source bytes
+unfoldable pub ImportsSource : (define : Bool) → Handed → List ℕ → List ℕ → Type 0
+ImportsSource define ps source bytes = define ≡ false → IsImportingBy ps source bytes
 
 -- ---- what is done
 
--- The source is composed: three numbers are taken, and the output is kept.
+-- The source is composed: the output's bytes mean what the source ascribes, three numbers are taken, and the output is kept.
 pub record ComposesSource (old new : Held) (source : List ℕ) (define : Bool) (o : Output) : Type 0 where
   pub output : IsOutput old.next (handed old.packages) source define o
+  pub means : MeansSource define (handed old.packages) source o.bytes.items
+  pub imports : ImportsSource define (handed old.packages) source o.bytes.items
   pub next : new.next ≡ old.next + 3
   pub kept : RegistersIf define old new o
 
@@ -137,12 +141,16 @@ pub record IsTried (next : ℕ) (ps : Handed) (source : List ℕ) (P : Resolves 
 abbrev pub WithKey : List ℕ → (Key → Type 0) → Type 0
 WithKey source P = (d : Document) × IsDocument source d × P (directive_key d)
 
--- the source is a document against which no cause stands, and there are three more numbers
+-- The source is a document against which no cause stands, there are three more numbers, and a world that states what it says
+-- meets the target that is named.
 pub record CanBeComposed (next : ℕ) (ps : Handed) (source : List ℕ) (define : Bool) : Type 0 where
   pub tree : Document
   pub read : IsDocument source tree
   pub room : next + 3 ≤ greatest
   pub accepted : IsAccepted (ascribed define tree ps)
+  pub types : Collection
+  pub world : WorldId
+  pub composed : IsComposition (resolved tree ps) types world
 
 -- the graph holds what the document says that the source is
 abbrev pub IsGraphed : Handed → List ℕ → Graph → Type 0
@@ -160,7 +168,7 @@ abbrev pub IsUnmade : ℕ → Handed → List ℕ → EncodeOptions → ComposeE
 IsUnmade next ps source options (error.Parse f) = read_source document source ≡ Err (fault_of f)
 IsUnmade next ps source options error.NumbersExhausted = (d : Document) × IsDocument source d × (greatest < next + 3)
 IsUnmade next ps source options (error.Resolution f) = IsTried next ps source (λ q. NamesFirst options q f)
-IsUnmade next ps source options (error.Target r) = IsTried next ps source IsTargetUnmet
+IsUnmade next ps source options (error.Target r) = IsTried next ps source (IsTargetUnmet options.define_components r)
 IsUnmade next ps source options error.KeyTaken = ⊥
 IsUnmade next ps source options error.BytesTaken = ⊥
 IsUnmade next ps source options error.Memory = Unit {0}

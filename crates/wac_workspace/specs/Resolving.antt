@@ -2,6 +2,7 @@
 use Rattle.std.specs.Prelude.{List, [], ◌∷◌, Bool, true, Option, Some, None, Ok, Err}
 use Rattle.wac_types_base.specs.declared.ids.WorldId.{WorldId}
 use Rattle.wac_types_base.specs.Record.{Collection}
+use Rattle.wac_types_fit.specs.Targets.{Report}
 use Rattle.wac_types_base.specs.Stated.{Stated, stated_world}
 use Rattle.indexmap.specs.IndexMap.{IndexMap}
 use Rattle.wac_types_names.specs.declared.package.BorrowedPackageKey.{BorrowedPackageKey}
@@ -22,12 +23,12 @@ use Rattle.wac_parser_resolve.specs.Meeting.{resolved}
 use Rattle.wac_parser_resolve.specs.Resolved.{Places}
 use Rattle.wac_parser_encode.specs.Meaning.{IsWorldOf}
 use Rattle.wac_graph_encode.specs.declared.options.EncodeOptions.{EncodeOptions}
-use Rattle.wac_parser_encode.specs.Refused.{TellsCause}
+use Rattle.wac_parser_encode.specs.Refused.{HasNoCause, TellsCause}
 use Rattle.wac_workspace.specs.declared.entries.Entry.{Entry}
 use Rattle.wac_workspace.specs.declared.errors.ComposeError.{ComposeError}
 use Rattle.wac_workspace.specs.declared.errors.ComposeError.TheVariants as error
 use Rattle.wac_workspace.specs.Packages.{key_of}
-use Rattle.wac_workspace.specs.Targets.{Meets, MeetsIf}
+use Rattle.wac_workspace.specs.Targets.{Meets, MeetsIf, Reports}
 
 -- packages as a document sees them: each key with its world and its bytes, in order
 abbrev pub Handed : Type 0
@@ -73,21 +74,23 @@ unfoldable pub IsComposition : Resolves → Collection → WorldId → Type 0
 IsComposition (Ok s) types world = IsWorldOf s.0 types world × MeetsIf s.1 (stated_world types world)
 IsComposition (Err c) types world = ⊥
 
--- a world states what is said, and does not meet the target
-pub record FailsTarget (s : State) (target : Stated) : Type 0 where
+-- No cause stands against encoding what is said, and a world that states it does not meet the target, as the report tells.
+pub record FailsTarget (define : Bool) (r : Report) (s : State) (target : Stated) : Type 0 where
+  pub free : HasNoCause define true s
   pub types : Collection
   pub world : WorldId
   pub states : IsWorldOf s types world
   pub unmet : Meets target (stated_world types world) → ⊥
+  pub reports : Reports target (stated_world types world) r
 
-abbrev pub FailsIf : State → Option Stated → Type 0
-FailsIf s None = ⊥
-FailsIf s (Some t) = FailsTarget s t
+abbrev pub FailsIf : (define : Bool) → Report → State → Option Stated → Type 0
+FailsIf define r s None = ⊥
+FailsIf define r s (Some t) = FailsTarget define r s t
 
--- so it is of a document that no other cause stands against
-unfoldable pub IsTargetUnmet : Resolves → Type 0
-IsTargetUnmet (Ok s) = FailsIf s.0 s.1
-IsTargetUnmet (Err c) = ⊥
+-- so it is of a document that no cause stands against
+unfoldable pub IsTargetUnmet : (define : Bool) → Report → Resolves → Type 0
+IsTargetUnmet define r (Ok s) = FailsIf define r s.0 s.1
+IsTargetUnmet define r (Err c) = ⊥
 
 -- why a document has no graph: its first cause, or want of memory
 abbrev pub IsOfResolving : Resolves → ComposeError → Type 0
@@ -99,6 +102,6 @@ IsOfResolving q e = ⊥
 -- want of memory
 abbrev pub IsLate : EncodeOptions → Resolves → ComposeError → Type 0
 IsLate options q (error.Resolution f) = NamesFirst options q f
-IsLate options q (error.Target r) = IsTargetUnmet q
+IsLate options q (error.Target r) = IsTargetUnmet options.define_components r q
 IsLate options q error.Memory = Unit {0}
 IsLate options q e = ⊥

@@ -4,6 +4,7 @@ use Rattle.wac_types_base.specs.declared.ids.WorldId.{WorldId}
 use Rattle.wac_types_base.specs.declared.item.ItemKind.{ItemKind}
 use Rattle.wac_types_base.specs.Record.{Collection}
 use Rattle.wac_types_base.specs.Collection.{Stands}
+use Rattle.wac_types_fit.specs.Targets.{Report}
 use Rattle.wac_types_base.specs.Stated.{Stated, stated_world}
 use Rattle.wac_graph_core.specs.Graph.{Graph}
 use Rattle.wac_graph_encode.specs.declared.options.EncodeOptions.{EncodeOptions}
@@ -11,7 +12,7 @@ use Rattle.wac_graph_encode.specs.declared.options.Encoded.{Encoded}
 use Rattle.wac_parser_tree.specs.Trees.{PackageName}
 use Rattle.wac_parser_resolve.specs.Resolved.{Places}
 use Rattle.wac_parser_encode.specs.Meaning.{HasResolvedWorld}
-use Rattle.wac_parser_encode.specs.Refused.{RefusesResolved}
+use Rattle.wac_parser_encode.specs.Refused.{CanBeEncoded, RefusesResolved}
 use Rattle.wac_workspace.specs.declared.compose.Numbers.{Numbers}
 use Rattle.wac_workspace.specs.declared.compose.Pair.{Pair}
 use Rattle.wac_workspace.specs.declared.output.Output.{Output}
@@ -19,7 +20,7 @@ use Rattle.wac_workspace.specs.declared.errors.ComposeError.{ComposeError}
 use Rattle.wac_workspace.specs.declared.errors.ComposeError.TheVariants as error
 use Rattle.wac_workspace.specs.Packages.{Held, HasKey, HasHanded}
 use Rattle.wac_workspace.specs.Composing.{greatest, output_key}
-use Rattle.wac_workspace.specs.Targets.{Meets}
+use Rattle.wac_workspace.specs.Targets.{Meets, Reports}
 use Rattle.wac_workspace.specs.Resolving.{Resolves, IsTargetUnmet, NamesFirst}
 
 -- three numbers from this one on, and the one behind them
@@ -41,9 +42,9 @@ pub record IsEncoded (last : ℕ) (e : Encoded) : Type 0 where
   pub number : e.types.number ≡ last
   pub stands : Stands e.types (ItemKind.Component e.world)
 
--- why a component of this world is refused over a target: it does not meet the target; or want of memory
+-- why a component of this world is refused over a target: it does not meet the target, as the report tells; or want of memory
 abbrev pub IsUnmet : (target world : Stated) → ComposeError → Type 0
-IsUnmet t w (error.Target r) = Meets t w → ⊥
+IsUnmet t w (error.Target r) = (Meets t w → ⊥) × Reports t w r
 IsUnmet t w error.Memory = Unit {0}
 IsUnmet t w e = ⊥
 
@@ -52,22 +53,24 @@ abbrev pub MeetsTargetOf : Graph → Option WorldId → Collection → WorldId �
 MeetsTargetOf g None types world = Unit {0}
 MeetsTargetOf g (Some t) types world = Meets (stated_world g.types t) (stated_world types world)
 
--- a world states what the graph holds, and does not meet the target
-pub record FailsTargetIn (g : Graph) (target : WorldId) : Type 0 where
+-- The graph can be encoded, and a world that states what it holds does not meet the target, as the report tells.
+pub record FailsTargetIn (g : Graph) (options : EncodeOptions) (r : Report) (target : WorldId) : Type 0 where
+  pub free : CanBeEncoded g options
   pub types : Collection
   pub world : WorldId
   pub states : HasResolvedWorld g types world
   pub unmet : Meets (stated_world g.types target) (stated_world types world) → ⊥
+  pub reports : Reports (stated_world g.types target) (stated_world types world) r
 
-abbrev pub FailsIn : Graph → Option WorldId → Type 0
-FailsIn g None = ⊥
-FailsIn g (Some t) = FailsTargetIn g t
+abbrev pub FailsIn : Graph → EncodeOptions → Report → Option WorldId → Type 0
+FailsIn g options r None = ⊥
+FailsIn g options r (Some t) = FailsTargetIn g options r t
 
 -- why a document that a graph holds at these places has no component that meets its target: the first cause of encoding it, or
 -- the target is not met; or want of memory
 abbrev pub IsAfterwards : Graph → Places → Option WorldId → EncodeOptions → ComposeError → Type 0
 IsAfterwards g at target options (error.Resolution f) = RefusesResolved g at options f
-IsAfterwards g at target options (error.Target r) = FailsIn g target
+IsAfterwards g at target options (error.Target r) = FailsIn g options r target
 IsAfterwards g at target options error.Memory = Unit {0}
 IsAfterwards g at target options e = ⊥
 
@@ -96,6 +99,6 @@ pub record IsOf (next : ℕ) (p : PackageName) (o : Output) : Type 0 where
 abbrev pub IsUnencoded : ℕ → EncodeOptions → Resolves → ComposeError → Type 0
 IsUnencoded next options q error.NumbersExhausted = greatest < next + 3
 IsUnencoded next options q (error.Resolution f) = (next + 3 ≤ greatest) × NamesFirst options q f
-IsUnencoded next options q (error.Target r) = (next + 3 ≤ greatest) × IsTargetUnmet q
+IsUnencoded next options q (error.Target r) = (next + 3 ≤ greatest) × IsTargetUnmet options.define_components r q
 IsUnencoded next options q error.Memory = Unit {0}
 IsUnencoded next options q e = ⊥

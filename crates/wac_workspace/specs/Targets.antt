@@ -1,10 +1,14 @@
 -- A component's world that meets a target.
-use Rattle.std.specs.Prelude.{◌≡◌, Option, Some, None}
+use Rattle.std.specs.Prelude.{◌≡◌, Option, Some, None, slice_get}
+use Rattle.wac_types_base.specs.declared.ids.WorldId.{WorldId}
+use Rattle.wac_types_base.specs.declared.defined.World.{World}
+use Rattle.wac_types_base.specs.Record.{Collection}
 use Rattle.wac_types_base.specs.Entries.{Name, value_at}
 use Rattle.wac_types_base.specs.Graph.{Among}
-use Rattle.wac_types_base.specs.Stated.{Stated, exports_of, imports_of, promote}
+use Rattle.wac_types_base.specs.Stated.{Stated, exports_of, imports_of, promote, stated_world}
 use Rattle.wac_types_base.specs.Tree.{tree}
 use Rattle.wac_types_base.specs.Fits.{Fits}
+use Rattle.wac_types_fit.specs.Targets.{IsEmptyReport, IsReport, Report}
 use Rattle.wac_parser_resolve.specs.Meeting.{given_by}
 
 -- the target gives something under the import's name that fits it
@@ -24,3 +28,17 @@ pub record Meets (target world : Stated) : Type 0 where
 abbrev pub MeetsIf : Option Stated → Stated → Type 0
 MeetsIf None world = Unit {0}
 MeetsIf (Some t) world = Meets t world
+
+-- The report of a world over a target: that of two worlds which state these, in one collection. It is not empty.
+pub record Reports (target world : Stated) (r : Report) : Type 0 where
+  pub types : Collection
+  pub target_id : WorldId
+  pub target_states : stated_world types target_id ≡ target
+  pub target_entry : World
+  pub target_there : slice_get types.worlds target_id.index ≡ Some target_entry
+  pub world_id : WorldId
+  pub world_states : stated_world types world_id ≡ world
+  pub world_entry : World
+  pub world_there : slice_get types.worlds world_id.index ≡ Some world_entry
+  pub report : IsReport types target_entry world_entry r
+  pub some : IsEmptyReport r → ⊥

@@ -131,16 +131,19 @@ fn test_target(
 {
     let pair = bring_together(alloc, types, target, encoded)?;
     pair.types.see_acyclic();
-    match validate_target(alloc, &pair.types, pair.target, pair.world) {
-        Ok(Ok(())) => Ok(()),
-        Ok(Err(report)) => Err(ComposeError::Target(report)),
-        Err(TargetError::Memory) => Err(ComposeError::Memory),
+    let met = match validate_target(alloc, &pair.types, pair.target, pair.world) {
+        Ok(met) => met,
+        Err(TargetError::Memory) => return Err(ComposeError::Memory),
         // which does not come: such a target is refused before, by this very cause
-        Err(TargetError::UsedWithoutIdentifier) => Err(ComposeError::Resolution(
-            ResolutionError::TypeCannotBeWritten {
+        Err(TargetError::UsedWithoutIdentifier) => {
+            return Err(ComposeError::Resolution(ResolutionError::TypeCannotBeWritten {
                 name: String::from_str(alloc, name)?,
-            },
-        )),
+            }))
+        }
+    };
+    match met {
+        Ok(()) => Ok(()),
+        Err(report) => Err(ComposeError::Target(report)),
     }
 }
 
@@ -365,8 +368,10 @@ fn compose_source(
     options: EncodeOptions,
 ) -> Result<(Output, u64), ComposeError>
     ensures output { IfOk result (λ r. IsOutput next (handed_list «packages».now) source.now options.define_components r.0) }
-    ensures means { IfOk result (λ r. MeansSource options (handed_list «packages».now) source.now r.0.bytes.items) }
-    ensures imports { IfOk result (λ r. ImportsSource options (handed_list «packages».now) source.now r.0.bytes.items) }
+    ensures means { IfOk result
+        (λ r. MeansSource options.define_components (handed_list «packages».now) source.now r.0.bytes.items) }
+    ensures imports { IfOk result
+        (λ r. ImportsSource options.define_components (handed_list «packages».now) source.now r.0.bytes.items) }
     ensures after { IfOk result (λ r. r.1 ≡ next + 3) }
     ensures refused { IfErr result (IsUnmade next (handed_list «packages».now) source.now options) }
 {
@@ -385,8 +390,9 @@ fn compose_over(
     requires worlds { All HasWorld entries.now }
     requires apart { AreApart entries.now }
     ensures output { IfOk result (λ r. IsOutput next (handed entries.now) source.now options.define_components r.0) }
-    ensures means { IfOk result (λ r. MeansSource options (handed entries.now) source.now r.0.bytes.items) }
-    ensures imports { IfOk result (λ r. ImportsSource options (handed entries.now) source.now r.0.bytes.items) }
+    ensures means { IfOk result (λ r. MeansSource options.define_components (handed entries.now) source.now r.0.bytes.items) }
+    ensures imports { IfOk result
+        (λ r. ImportsSource options.define_components (handed entries.now) source.now r.0.bytes.items) }
     ensures after { IfOk result (λ r. r.1 ≡ next + 3) }
     ensures refused { IfErr result (IsUnmade next (handed entries.now) source.now options) }
 {
@@ -411,7 +417,7 @@ fn source_graph(
 impl Workspace {
     ghost use Rattle.std.specs.Prelude.{◌≡◌, IfOk, IfErr, OnErr};
     ghost use Rattle.wac_workspace.specs.Resolving.{handed};
-    ghost use Rattle.wac_workspace.specs.Composing.{greatest, ImportsSource, ComposesSource, IsRefused, IsGraphed, IsUnresolved, MeansSource};
+    ghost use Rattle.wac_workspace.specs.Composing.{greatest, ComposesSource, IsRefused, IsGraphed, IsUnresolved};
 
     /// The graph of the document that the source is, over the packages: to look at, with nothing registered. The number of
     /// its collection is the greatest `u64`, which no output has.
@@ -429,8 +435,6 @@ impl Workspace {
     /// are offsets in the source, in bytes.
     pub fn compose(&mut self, source: &str, options: EncodeOptions) -> Result<Output, ComposeError>
         ensures composed { IfOk result (ComposesSource self.old self.new source.now options.define_components) }
-        ensures means { IfOk result (λ o. MeansSource options (handed self.old.packages) source.now o.bytes.items) }
-        ensures imports { IfOk result (λ o. ImportsSource options (handed self.old.packages) source.now o.bytes.items) }
         ensures refused { IfErr result (IsRefused self.old source.now options) }
         ensures kept { OnErr result (self.new ≡ self.old) }
     {

@@ -46,11 +46,11 @@ unspelled_heap HeapType.NoExn n = refl
 unspelled_heap HeapType.Cont n = refl
 unspelled_heap HeapType.NoCont n = refl
 
-unspelled_reference : (b : Bool) (h : HeapType) → ((r : CoreReference) → core_reference_type r ≡ record { nullable = b; heap_type = h } → ⊥) → false ≡ writable_reference (record { nullable = b; heap_type = h })
+pub unspelled_reference : (b : Bool) (h : HeapType) → ((r : CoreReference) → core_reference_type r ≡ record { nullable = b; heap_type = h } → ⊥) → false ≡ writable_reference (record { nullable = b; heap_type = h })
 unspelled_reference true h n = unspelled_heap h n
 unspelled_reference false h n = refl
 
-unspelled_type : (t : CoreType) → ((v : CoreValue) → core_type v ≡ t → ⊥) → false ≡ writable_core_type t
+pub unspelled_type : (t : CoreType) → ((v : CoreValue) → core_type v ≡ t → ⊥) → false ≡ writable_core_type t
 unspelled_type CoreType.I32 n = absurd (n value.I32 refl)
 unspelled_type CoreType.I64 n = absurd (n value.I64 refl)
 unspelled_type CoreType.F32 n = absurd (n value.F32 refl)
@@ -68,7 +68,7 @@ type_tested None t e n = unspelled_type t (n refl)
 
 -- ---- all of a module
 
-of_values : {N X : Type 0} (p : X → Bool) (xs : List (N × X)) → list_all p (values_of xs) ≡ list_all (λ e. p e.1) xs
+pub of_values : {N X : Type 0} (p : X → Bool) (xs : List (N × X)) → list_all p (values_of xs) ≡ list_all (λ e. p e.1) xs
 of_values p [] = refl
 of_values p (x ∷ xs) = ap (λ b. p x.1 && b) (of_values p xs)
 

@@ -10,6 +10,7 @@ use Rattle.std.proofs.lemmas.Slice.Eq.{bytes_eq-Decides}
 use Rattle.wac_types_base.specs.declared.ids.InterfaceId.{InterfaceId}
 use Rattle.wac_types_base.specs.declared.ids.DefinedTypeId.{DefinedTypeId}
 use Rattle.wac_types_base.specs.declared.item.ItemKind.{ItemKind}
+use Rattle.wac_types_base.specs.declared.item.«Type».{«Type» as TypeKind}
 use Rattle.wac_types_base.specs.declared.defined.UsedType.{UsedType}
 use Rattle.wac_types_base.specs.Entries.{Name, names_of, with_values, value_at, has_name, put_name, AreDistinct}
 use Rattle.wac_types_base.specs.Record.{Collection}
@@ -18,14 +19,15 @@ use Rattle.wac_types_base.specs.Collection.{Stands, IsAcyclic}
 use Rattle.wac_types_base.specs.Stated.{Stated, Used, kind_of, stated_of, exports_of, root_name}
 use Rattle.wac_types_base.specs.Tree.{tree}
 use Rattle.wac_types_base.proofs.Standing.{interface_found}
+use Rattle.wac_types_base.proofs.Telling.{item_kind, kind_stated}
 use Rattle.wac_types_base.proofs.Stating.{stated_uses, value_with}
 use Rattle.wac_types_base.proofs.Looked.{put_entry-new, among-get, take-one_more}
 use Rattle.wac_types_base.proofs.Lists.{among_split}
 use Rattle.wac_types_base.proofs.Loops.{names-with_values, take-all}
 use Rattle.wac_composition.specs.Tests.{same_tree}
-use Rattle.wac_composition.specs.Writable.{is_resource, is_fresh, root_of, taken, there_of, holder, with_roots, is_taken_as, is_given, is_used_value}
+use Rattle.wac_composition.specs.Writable.{is_used_kind, usable, is_resource, is_fresh, root_of, taken, there_of, holder, with_roots, is_taken_as, is_given, is_used_value}
 use Rattle.wac_composition.specs.Writable.{Holder as Held}
-use Rattle.wac_graph_scopes.specs.Parts.{exports_of as exports_in, IsUseAt}
+use Rattle.wac_graph_scopes.specs.Parts.{exports_of as exports_in, IsUseAt, used_kind, used_if, taken_in}
 use Rattle.wac_graph_scopes.specs.declared.parts.Use.{Use}
 use Rattle.wac_types_fit.proofs.Items.{value_at-among}
 use Rattle.wac_graph_scopes.proofs.HandleLaws.{take_zero}
@@ -132,13 +134,28 @@ abbrev taken_roots : List Used → List Name
 taken_roots us = map root_of (filter (λ e. is_resource (kind_of e.1)) (filter_map taken us))
 
 taken_names : (us : List Used) (n : Name) → Among n (names_of (filter_map taken us)) → Among n (map (λ u. u.name) us)
-taken_names (u ∷ us) n m = by (value_at (exports_of u.interface) (there_of u)) (taken_names us n) m
+taken_names (u ∷ us) n m = by (usable (value_at (exports_of u.interface) (there_of u))) (taken_names us n) m
   where
     by : (o : Option Stated) → (Among n (names_of (filter_map taken us)) → Among n (map (λ u. u.name) us)) → Among n (names_of (cons_option (option_map (λ x. (u.name, x)) o) (filter_map taken us))) → Among n (map (λ u. u.name) (u ∷ us))
     by None f m = inr (f m)
     by (Some x) f (inl e) = inl e
     by (Some x) f (inr m) = inr (f m)
 taken_names [] n m = m
+
+-- what is of a kind that can be used was there
+used_from : (o : Option ItemKind) (k : ItemKind) → used_if o ≡ Some k → o ≡ Some k
+used_from None k e = e
+used_from (Some (ItemKind.Ty (TypeKind.Resource r))) k e = e
+used_from (Some (ItemKind.Ty (TypeKind.Value v))) k e = e
+used_from (Some (ItemKind.Ty (TypeKind.Func f))) k e = absurd (cc e)
+used_from (Some (ItemKind.Ty (TypeKind.Interface f))) k e = absurd (cc e)
+used_from (Some (ItemKind.Ty (TypeKind.World f))) k e = absurd (cc e)
+used_from (Some (ItemKind.Ty (TypeKind.Module f))) k e = absurd (cc e)
+used_from (Some (ItemKind.Func f)) k e = absurd (cc e)
+used_from (Some (ItemKind.Instance f)) k e = absurd (cc e)
+used_from (Some (ItemKind.Component f)) k e = absurd (cc e)
+used_from (Some (ItemKind.Module f)) k e = absurd (cc e)
+used_from (Some (ItemKind.Value v)) k e = absurd (cc e)
 
 module _ (c : Collection) (a : IsAcyclic c) where
   uses_names : (us : List (Name × UsedType)) → map (λ u. u.name) (stated_uses c us) ≡ names_of us
@@ -217,29 +234,42 @@ module _ (c : Collection) (a : IsAcyclic c) where
   abbrev named : {X : Type 0} → Name → X → Name × X
   named n x = (n, x)
 
-  takes : (u : Name × UsedType) → taken (record { name = u.0; there = u.1.name; interface = stated_of c (ItemKind.Instance u.1.interface) }) ≡ option_map (λ k. named u.0 (stated_of c k)) (value_at (exports_in c u.1.interface) (unwrap_or u.1.name u.0))
+  takes : (u : Name × UsedType) → taken (record { name = u.0; there = u.1.name; interface = stated_of c (ItemKind.Instance u.1.interface) }) ≡ option_map (λ k. named u.0 (stated_of c k)) (used_if (value_at (exports_in c u.1.interface) (unwrap_or u.1.name u.0)))
   takes u =
-      ap (λ l. option_map (named u.0) (value_at l (unwrap_or u.1.name u.0))) (exports_are c a u.1.interface)
-      ∙ ap (option_map (named u.0)) (value_with (stated_of c) (exports_in c u.1.interface) (unwrap_or u.1.name u.0))
-      ∙ mapped (value_at (exports_in c u.1.interface) (unwrap_or u.1.name u.0))
+      ap (λ l. option_map (named u.0) (usable (value_at l (unwrap_or u.1.name u.0)))) (exports_are c a u.1.interface)
+      ∙ ap (λ o. option_map (named u.0) (usable o)) (value_with (stated_of c) (exports_in c u.1.interface) (unwrap_or u.1.name u.0))
+      ∙ mapped (value_at (exports_in c u.1.interface) (unwrap_or u.1.name u.0)) (λ k q. export_item_stands u.1.interface (unwrap_or u.1.name u.0) k q)
     where
-      mapped : (o : Option ItemKind) → option_map (named u.0) (option_map (stated_of c) o) ≡ option_map (λ k. named u.0 (stated_of c k)) o
-      mapped None = refl
-      mapped (Some k) = refl
+      by_kind : (k : ItemKind) → option_map (named u.0) (if is_used_kind (item_kind k) then Some (stated_of c k) else None) ≡ option_map (λ j. named u.0 (stated_of c j)) (used_kind k)
+      by_kind (ItemKind.Ty (TypeKind.Resource r)) = refl
+      by_kind (ItemKind.Ty (TypeKind.Value v)) = refl
+      by_kind (ItemKind.Ty (TypeKind.Func f)) = refl
+      by_kind (ItemKind.Ty (TypeKind.Interface f)) = refl
+      by_kind (ItemKind.Ty (TypeKind.World f)) = refl
+      by_kind (ItemKind.Ty (TypeKind.Module f)) = refl
+      by_kind (ItemKind.Func f) = refl
+      by_kind (ItemKind.Instance f) = refl
+      by_kind (ItemKind.Component f) = refl
+      by_kind (ItemKind.Module f) = refl
+      by_kind (ItemKind.Value v) = refl
+
+      mapped : (o : Option ItemKind) → ((k : ItemKind) → o ≡ Some k → Stands c k) → option_map (named u.0) (usable (option_map (stated_of c) o)) ≡ option_map (λ k. named u.0 (stated_of c k)) (used_if o)
+      mapped None st = refl
+      mapped (Some k) st = ap (λ q. option_map (named u.0) (if is_used_kind q then Some (stated_of c k) else None)) (kind_stated c a k (st k refl)) ∙ by_kind k
 
   pub filled_first : (s : Holder) (us : List (Name × UsedType)) → IsFilled c s (holder [] []) → IsFilled c s (holder (stated_uses c (take 0 us)) [])
   filled_first s us h = subst (λ l. IsFilled c s (holder (stated_uses c l) [])) (sym (take_zero us)) h
 
   -- one more of a list of uses
   pub filled_at : (us : List (Name × UsedType)) (at : ℕ) (u : Use) (s t : Holder) → AreDistinct (names_of us) → IsUseAt us at u → IsFilled c s (holder (stated_uses c (take at us)) [])
-      → t ≡ with_use c s u.name.now (value_at (exports_in c u.interface) u.there.now) → IsFilled c t (holder (stated_uses c (take (at + 1) us)) [])
+      → t ≡ with_use c s u.name.now (taken_in c u) → IsFilled c t (holder (stated_uses c (take (at + 1) us)) [])
   filled_at us at u s t distinct (e, there, is) h same =
-      let o = value_at (exports_in c e.1.interface) (unwrap_or e.1.name e.0) in
-      let taken_is : t ≡ with_use c s e.0 o = same ∙ ap (λ n. with_use c s n (value_at (exports_in c u.interface) u.there.now)) is.name ∙ ap (λ n. with_use c s e.0 (value_at (exports_in c u.interface) n)) is.there
-      ∙ ap (λ i. with_use c s e.0 (value_at (exports_in c i) (unwrap_or e.1.name e.0))) is.interface in
+      let o = used_if (value_at (exports_in c e.1.interface) (unwrap_or e.1.name e.0)) in
+      let taken_is : t ≡ with_use c s e.0 o = same ∙ ap (λ n. with_use c s n (taken_in c u)) is.name ∙ ap (λ n. with_use c s e.0 (used_if (value_at (exports_in c u.interface) n))) is.there
+      ∙ ap (λ i. with_use c s e.0 (used_if (value_at (exports_in c i) (unwrap_or e.1.name e.0)))) is.interface in
       subst (λ l. IsFilled c t (holder (stated_uses c l) [])) (sym (take-one_more us at e there))
       (subst (λ t. IsFilled c t (holder (stated_uses c (take at us ++ e ∷ [])) [])) (sym taken_is)
-      (filled_next (take at us) e s h (not_before us at e distinct there) o (λ k q. export_item_stands e.1.interface (unwrap_or e.1.name e.0) k q) (takes e)))
+      (filled_next (take at us) e s h (not_before us at e distinct there) o (λ k q. export_item_stands e.1.interface (unwrap_or e.1.name e.0) k (used_from (value_at (exports_in c e.1.interface) (unwrap_or e.1.name e.0)) k q)) (takes e)))
 
   pub filled_all : (us : List (Name × UsedType)) (at : ℕ) (s : Holder) (xs : List Used) → length us ≤ at → xs ≡ stated_uses c us → IsFilled c s (holder (stated_uses c (take at us)) []) → IsFilled c s (holder xs [])
   filled_all us at s xs past is h = subst (λ l. IsFilled c s (holder l [])) (ap (stated_uses c) (take-all us at past) ∙ sym is) h

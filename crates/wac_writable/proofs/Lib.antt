@@ -4,6 +4,8 @@ pub mod UnnamedLaws
 pub mod ItemLaws
 pub mod HolderLaws
 pub mod ValueLaws
+pub mod CoreRefused
+pub mod StockLaws
 pub mod SimpleLaws
 pub mod ReasonLaws
 pub mod InterfaceLaws

@@ -3,7 +3,6 @@ use Rattle.std.proofs.Common.{◌≡◌, ◌⊎◌, Bool, true, false, true≢fa
 use Rattle.std.specs.Bool.{Decides}
 use Rattle.std.proofs.lemmas.Bool.Decides.{Decides-like}
 use Rattle.wac_types_base.specs.Entries.{Name}
-use Rattle.wac_types_base.specs.Graph.{Among}
 use Rattle.wac_types_base.specs.Stated.{Stated, IsComponent, kind_of, uses_of, imports_of, exports_of}
 use Rattle.wac_composition.specs.Writable.{some_unnamed}
 use Rattle.wac_composition.specs.NotWritten.{CannotBeWritten, component_holder, given_to_exports, PackageFails, unnamed_in_package, not_imported_by, not_given_by, import_of_package, export_of_package, PackageCannotBeWritten}

@@ -1,5 +1,5 @@
 -- Uses that fail, those that interfaces and items need, and lists of them.
-use Rattle.std.proofs.Common.{◌≡◌, ◌⊎◌, ◌≤◌, ◌+◌, ℕ, Bool, true, false, true≢false, not, ◌||◌, List, ◌++◌, take, length, Option, Some, None, inl, inr, refl, sym, ap, ◌∙◌, subst, slice_get, if◌then◌else◌}
+use Rattle.std.proofs.Common.{◌≡◌, ◌⊎◌, ◌≤◌, ◌+◌, ℕ, Bool, false, true≢false, List, ◌++◌, take, length, Option, Some, None, inl, inr, refl, sym, ap, ◌∙◌, subst, slice_get, if◌then◌else◌}
 use Rattle.std.specs.Prelude.{⊤}
 use Rattle.std.specs.Bool.{Decides}
 use Rattle.std.proofs.lemmas.Bool.Decides.{Decides-like}
@@ -10,17 +10,17 @@ use Rattle.wac_types_base.specs.declared.defined.UsedType.{UsedType}
 use Rattle.wac_types_base.specs.Entries.{Name, value_at, with_values}
 use Rattle.wac_types_base.specs.Record.{Collection}
 use Rattle.wac_types_base.specs.Graph.{Among}
-use Rattle.wac_types_base.specs.Stated.{Stated, Used, kind_of, stated_of, uses_of, exports_of, identifier_of, IsResource}
+use Rattle.wac_types_base.specs.Stated.{Stated, Used, kind_of, stated_of, uses_of, exports_of, identifier_of}
 use Rattle.wac_types_base.specs.Tree.{tree}
 use Rattle.wac_types_base.proofs.Adding.{Among-left, Among-right}
-use Rattle.wac_types_base.proofs.Lists.{among_last, among_mapped, among_split, always}
+use Rattle.wac_types_base.proofs.Lists.{among_last, among_mapped, among_split}
 use Rattle.wac_types_base.proofs.Looked.{among-get, take-one_more}
 use Rattle.wac_types_base.proofs.Loops.{take-all}
 use Rattle.wac_types_base.proofs.Stating.{used_of as used_at, stated_uses}
-use Rattle.wac_composition.specs.Tests.{same_tree}
-use Rattle.wac_composition.specs.Writable.{has_items, there_of, item_in, given_in, is_resource, stands_as}
+use Rattle.wac_composition.specs.Classes.{is_instance_kind}
+use Rattle.wac_composition.specs.Writable.{there_of, item_in, given_in, stands_as}
 use Rattle.wac_composition.specs.NotWritten.{Needs, a_use, under_use, under_item, IsImported}
-use Rattle.wac_composition.proofs.NotWritten.{trees_decide, resource_decides}
+use Rattle.wac_composition.proofs.NotWritten.{trees_decide}
 use Rattle.wac_composition.proofs.Lists.{mapped_among}
 use Rattle.wac_graph_scopes.specs.declared.parts.Use.{Use}
 use Rattle.wac_graph_scopes.specs.Parts.{IsUseAt}
@@ -82,7 +82,7 @@ imported_alike is n u v e t h = record {
   there = h.there;
   item = λ x q.
       let r = h.item x (ap (λ i. value_at (exports_of i) (there_of u)) e ∙ ap (λ m. value_at (exports_of v.interface) m) t ∙ q) in
-      (r.0, ap (λ m. if has_items (kind_of h.interface) then value_at (exports_of h.interface) m else None) (sym t) ∙ r.1, r.2);
+      (r.0, ap (λ m. if is_instance_kind (kind_of h.interface) then value_at (exports_of h.interface) m else None) (sym t) ∙ r.1, r.2);
 }
 
 module _ (o : Bool) (is : List (Name × Stated)) where

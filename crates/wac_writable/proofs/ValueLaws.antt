@@ -1,5 +1,5 @@
 -- Value types that fail, by their entries.
-use Rattle.std.proofs.Common.{rules, ◌≡◌, ◌↔◌, ◌⊎◌, ◌&&◌, ◌||◌, IsTrue, ℕ, zero, suc, ◌+◌, Bool, true, false, List, [], ◌∷◌, map, drop, Option, Some, None, inl, inr, refl, sym, ap, ◌∙◌, subst, slice_get}
+use Rattle.std.proofs.Common.{◌≡◌, ◌⊎◌, ◌&&◌, ◌||◌, ℕ, zero, suc, ◌+◌, Bool, true, false, List, [], ◌∷◌, map, drop, Option, Some, None, inl, inr, refl, sym, ap, ◌∙◌, subst, slice_get}
 use Rattle.std.specs.Prelude.{not, option_map}
 use Rattle.std.specs.List.{list_any}
 use Rattle.wac_types_base.specs.declared.ids.DefinedTypeId.{DefinedTypeId}
@@ -44,7 +44,7 @@ value_slot_is (Some (ItemKind.Value w)) v e = let s : w ≡ v = cc e in ap (λ v
 abbrev pub AllValues : List Slot → Type 0
 AllValues xs = (i : ℕ) (k : ItemKind) → slice_get xs i ≡ Some (Some k) → (v : ValueType) × (k ≡ ItemKind.Value v)
 
-and_false : (b : Bool) → (b && false) ≡ false
+pub and_false : (b : Bool) → (b && false) ≡ false
 and_false true = refl
 and_false false = refl
 
@@ -123,6 +123,21 @@ module _ (c : Collection) (a : IsAcyclic c) where
   pub borrow_resource : (r : ResourceId) → Stands c (ItemKind.Value (ValueType.Borrow r)) → Stands c (ItemKind.Ty (TypeKind.Resource r))
   borrow_resource r s = resource_stands c r ∙ sym (borrow_stands c r) ∙ s
 
+  -- the root name of a handle is that of its resource
+  pub own_root : (r : ResourceId) → Stands c (ItemKind.Value (ValueType.Own r)) → root_name (stated_of c (ItemKind.Value (ValueType.Own r))) ≡ root_name (stated_of c (ItemKind.Ty (TypeKind.Resource r)))
+  own_root r s =
+      let f = resource_found c r (own_resource r s) in
+      let e = resource_entry f.value in
+      let is = resource_node c r f.value f.at f.own in
+      ap root_name (stated_step c a (ItemKind.Value (ValueType.Own r)) (own_of e.0, e.1) (own_node_is r e is)) ∙ own_named f.value.name f.value.alias ∙ sym (ap root_name (stated_step c a (ItemKind.Ty (TypeKind.Resource r)) e is))
+
+  pub borrow_root : (r : ResourceId) → Stands c (ItemKind.Value (ValueType.Borrow r)) → root_name (stated_of c (ItemKind.Value (ValueType.Borrow r))) ≡ root_name (stated_of c (ItemKind.Ty (TypeKind.Resource r)))
+  borrow_root r s =
+      let f = resource_found c r (borrow_resource r s) in
+      let e = resource_entry f.value in
+      let is = resource_node c r f.value f.at f.own in
+      ap root_name (stated_step c a (ItemKind.Value (ValueType.Borrow r)) (borrow_of e.0, e.1) (borrow_node_is r e is)) ∙ borrow_named f.value.name f.value.alias ∙ sym (ap root_name (stated_step c a (ItemKind.Ty (TypeKind.Resource r)) e is))
+
   own_fails : (r : ResourceId) (h : Held) → Stands c (ItemKind.Value (ValueType.Own r)) → id_fails c (ValueType.Own r) h ≡ fails_unused c (ValueType.Own r) (lacks_root c r h) h
   own_fails r h s =
       let f = resource_found c r (own_resource r s) in
@@ -131,7 +146,7 @@ module _ (c : Collection) (a : IsAcyclic c) where
       let x = stated_step c a (ItemKind.Value (ValueType.Own r)) (own_of e.0, e.1) (own_node_is r e is) in
       own_at c h (stated_of c (ItemKind.Value (ValueType.Own r))) e.0 (row (map (option_map (stated_of c)) e.1)) x
       ∙ ap (λ n. not (is_used_value h (stated_of c (ItemKind.Value (ValueType.Own r)))) && not (has_name h.roots n))
-      (ap root_name x ∙ own_named f.value.name f.value.alias ∙ sym (ap root_name (stated_step c a (ItemKind.Ty (TypeKind.Resource r)) e is)))
+      (own_root r s)
 
   borrow_fails : (r : ResourceId) (h : Held) → Stands c (ItemKind.Value (ValueType.Borrow r)) → id_fails c (ValueType.Borrow r) h ≡ fails_unused c (ValueType.Borrow r) (lacks_root c r h) h
   borrow_fails r h s =
@@ -141,7 +156,7 @@ module _ (c : Collection) (a : IsAcyclic c) where
       let x = stated_step c a (ItemKind.Value (ValueType.Borrow r)) (borrow_of e.0, e.1) (borrow_node_is r e is) in
       borrow_at c h (stated_of c (ItemKind.Value (ValueType.Borrow r))) e.0 (row (map (option_map (stated_of c)) e.1)) x
       ∙ ap (λ n. not (is_used_value h (stated_of c (ItemKind.Value (ValueType.Borrow r)))) && not (has_name h.roots n))
-      (ap root_name x ∙ borrow_named f.value.name f.value.alias ∙ sym (ap root_name (stated_step c a (ItemKind.Ty (TypeKind.Resource r)) e is)))
+      (borrow_root r s)
 
   pub handle_is : (v : ValueType) (r : ResourceId) (h : Held) → IsHandleOf v r → Stands c (ItemKind.Value v) → id_fails c v h ≡ fails_unused c v (lacks_root c r h) h
   handle_is v r h (inl e) s = subst (λ v. id_fails c v h ≡ fails_unused c v (lacks_root c r h) h) (sym e) (own_fails r h (subst (λ v. Stands c (ItemKind.Value v)) e s))

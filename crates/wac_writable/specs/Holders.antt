@@ -3,12 +3,13 @@ use Rattle.std.specs.Prelude.{◌≡◌, ◌&&◌, ◌||◌, Bool, false, List, 
 use Rattle.std.specs.Map.{lookup}
 use Rattle.wac_types_base.specs.declared.ids.DefinedTypeId.{DefinedTypeId}
 use Rattle.wac_types_base.specs.declared.ids.ResourceId.{ResourceId}
+use Rattle.wac_types_base.specs.declared.ids.InterfaceId.{InterfaceId}
 use Rattle.wac_types_base.specs.declared.item.ValueType.{ValueType}
 use Rattle.wac_types_base.specs.declared.item.«Type».{«Type» as TypeKind}
 use Rattle.wac_types_base.specs.declared.item.ItemKind.{ItemKind}
 use Rattle.wac_types_base.specs.contracts.ids.DefinedTypeIdPartialEq.TheImpl.{eq-value}
 use Rattle.wac_types_base.specs.Record.{Collection}
-use Rattle.wac_types_base.specs.Entries.{Name, value_at, with_values, has_name, put_name, put_entry}
+use Rattle.wac_types_base.specs.Entries.{Name, with_values, has_name, put_name, put_entry}
 use Rattle.wac_types_base.specs.Graph.{Among}
 use Rattle.wac_types_base.specs.Collection.{Stands}
 use Rattle.wac_types_base.specs.Stated.{Stated, kind_of, untyped, stated_of, uses_of, exports_of, root_name}
@@ -19,7 +20,7 @@ use Rattle.wac_composition.specs.Writable.{is_resource, is_fresh, is_value_type,
 use Rattle.wac_composition.specs.Writable.{Holder as Held}
 use Rattle.wac_graph_scopes.specs.declared.parts.Use.{Use}
 use Rattle.wac_graph_scopes.specs.declared.parts.Item.{Item}
-use Rattle.wac_graph_scopes.specs.Parts.{exports_of as exports_in}
+use Rattle.wac_graph_scopes.specs.Parts.{taken_in}
 use Rattle.wac_writable.specs.declared.holder.Holder.{Holder}
 
 -- the items that are used, in their order, and the same root names
@@ -76,6 +77,10 @@ abbrev pub resource_in : ItemKind → Option ResourceId
 resource_in (ItemKind.Ty (TypeKind.Resource r)) = Some r
 resource_in k = None
 
+abbrev pub instance_in : ItemKind → Option InterfaceId
+instance_in (ItemKind.Instance i) = Some i
+instance_in k = None
+
 -- a type that is used, as an item, is that of a value type, by its tree
 abbrev pub is_used_as : Stated → Stated → Bool
 is_used_as x v = is_value_type (kind_of x) && same_tree (tree (untyped x)) (tree v)
@@ -101,7 +106,7 @@ with_use c s n (Some k) = record s { used = put_entry s.used n k; roots = resour
 
 -- with what a use takes, and with the root of a resource under its own name
 abbrev pub with_taken : Collection → Holder → Use → Holder
-with_taken c s u = with_use c s u.name.now (value_at (exports_in c u.interface) u.there.now)
+with_taken c s u = with_use c s u.name.now (taken_in c u)
 
 abbrev pub with_fresh : Collection → Holder → Item → Holder
 with_fresh c s x = record s { roots = named_roots c x.name.now x.kind s.roots }

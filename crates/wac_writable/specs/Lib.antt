@@ -5,3 +5,4 @@ pub mod Items
 pub mod Tests
 pub mod Uses
 pub mod Givers
+pub mod Stocked

@@ -20,7 +20,7 @@ use crate::maps::insert_under;
 use indexmap::IndexMap;
 use std::alloc::{AllocError, Global};
 use wac_graph_scopes::parts::{
-    Item, Use, export_at, export_count, export_named, import_at, import_count, root_name, use_at,
+    Item, Use, export_at, export_count, import_at, import_count, root_name, taken, use_at,
     use_count, world_export_at, world_export_count, world_use_at, world_use_count,
 };
 use wac_types_base::{
@@ -190,11 +190,11 @@ impl Holder {
         self.add_resource(types, kind)
     }
 
-    /// Adds the item that is used, and the root of a resource.
+    /// Adds the resource or the value type that is used, and the root of a resource.
     fn add_use(&mut self, types: &Types, used: Use<'_>) -> Result<(), AllocError>
         ensures { OnOk result (self.new ≡ with_taken types.now self.old used.entry) }
     {
-        match export_named(types, used.interface, used.there) {
+        match taken(types, used) {
             Some(kind) => self.add_taken(types, used.name, kind),
             None => Ok(()),
         }

@@ -6,7 +6,7 @@ ghost use Rattle.wac_types_base.specs.declared.item.ItemKind.{ItemKind};
 ghost use Rattle.wac_types_base.specs.declared.item.«Type».{«Type» as TypeKind};
 ghost use Rattle.wac_types_base.specs.Collection.{Stands};
 ghost use Rattle.wac_types_base.specs.Entries.{value_at};
-ghost use Rattle.wac_writable.specs.Holders.{Keeps, resource_in};
+ghost use Rattle.wac_writable.specs.Holders.{Keeps, resource_in, instance_in};
 ghost use Rattle.wac_writable.specs.Values.{IsHandleOf, TellsRoot, TellsUnused, TellsValue, TellsPlaces, value_in_slot};
 ghost use Rattle.wac_writable.specs.Items.{IsSimple, module_unwritable};
 ghost use Rattle.wac_writable.specs.Tests.{TellsFound, TellsOf, TellsUngiven, TellsTested, TellsExports, TellsInterface, TellsFirstUnwritten};
@@ -329,7 +329,17 @@ fn stands_for(test: Test<'_>, item: ItemKind, there: Option<ItemKind>) -> Result
     }
 }
 
-/// Whether the import of a used interface gives what is used, as itself.
+/// The interface of an instance.
+fn instance_of(kind: ItemKind) -> Option<InterfaceId>
+    ensures { result ≡ instance_in kind }
+{
+    match kind {
+        ItemKind::Instance(id) => Some(id),
+        _ => None,
+    }
+}
+
+/// Whether the import of a used interface gives what is used, as itself. Only an instance gives anything.
 fn gives_used(test: Test<'_>, import: ItemKind, used: Use<'_>) -> Result<bool, AllocError>
     ensures { IfOk result (TellsGivenBy test.entry import used.entry) }
 {
@@ -337,7 +347,7 @@ fn gives_used(test: Test<'_>, import: ItemKind, used: Use<'_>) -> Result<bool, A
     let Some(item) = export_named(test.types, used.interface, used.there) else {
         return Ok(true);
     };
-    let Some(id) = interface_of(test.types, import) else {
+    let Some(id) = instance_of(import) else {
         return Ok(false);
     };
     stands_for(test, item, export_named(test.types, id, used.there))

@@ -70,14 +70,14 @@ pub(crate) fn ty(alloc: Global, ty: &Type<'_>) -> Result<Value, AllocError>
         Type::Bool(at) => spanned(alloc, "bool", *at),
         Type::String(at) => spanned(alloc, "string", *at),
         Type::Tuple(types, at) => tuple(alloc, types, *at),
-        Type::List(ty, at) => one_type(alloc, "list", ty, *at),
-        Type::Option(ty, at) => one_type(alloc, "option", ty, *at),
+        Type::List(ty, at) => one_type(alloc, ty, "list", *at),
+        Type::Option(ty, at) => one_type(alloc, ty, "option", *at),
         Type::Result { ok, err, span } => {
             result_type(alloc, payload(alloc, ok), payload(alloc, err), *span)
         }
         Type::Borrow(id, at) => borrow(alloc, id, *at),
-        Type::Stream(ty, at) => optional_type(alloc, "stream", ty, *at),
-        Type::Future(ty, at) => optional_type(alloc, "future", ty, *at),
+        Type::Stream(ty, at) => optional_type(alloc, ty, "stream", *at),
+        Type::Future(ty, at) => optional_type(alloc, ty, "future", *at),
         Type::ErrorContext(at) => spanned(alloc, "errorContext", *at),
         Type::Ident(id) => declared(alloc, id),
     }
@@ -86,8 +86,8 @@ pub(crate) fn ty(alloc: Global, ty: &Type<'_>) -> Result<Value, AllocError>
 #[cycle(ty)]
 pub(crate) fn one_type(
     alloc: Global,
-    name: &str,
     one: &Type<'_>,
+    name: &str,
     at: SourceSpan,
 ) -> Result<Value, AllocError>
     ensures { IfOk result (λ v. view v ≡ objects.variant name.now (with_span (values.ty (view_ty one.now)) at)) }
@@ -109,8 +109,8 @@ pub(crate) fn payload(alloc: Global, payload: &Option<Box<Type<'_>>>) -> Result<
 #[cycle(ty)]
 pub(crate) fn optional_type(
     alloc: Global,
-    name: &str,
     one: &Option<Box<Type<'_>>>,
+    name: &str,
     at: SourceSpan,
 ) -> Result<Value, AllocError>
     ensures { Gives result (objects.variant name.now (with_span (values.maybe_ty (view_maybe_ty one.now)) at)) }

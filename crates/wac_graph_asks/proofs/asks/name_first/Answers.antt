@@ -7,5 +7,5 @@ returns-then-contains_key c = was_named c.args.names.now.entries c.args.node c.a
 
 pub returns : goal.returns
 returns c =
-    is_named c.args.names.now.entries c.insert.new.self.entries c.args.node c.args.name.now (sym c.contains_key.ensures ∙ c.if-contains_key.false) (c.in_ok-insert.ensures.updates.1 ∙ ap Some c.in_ok-name.ensures)
+    is_named c.args.names.now.entries c.insert.new.self.entries c.args.node c.args.name.now (sym c.contains_key.ensures ∙ c.if-contains_key.false) (c.in_ok-insert.ensures.updates.1 ∙ ap Some (c.new-name.ensures ∙ c.in_ok-from_str.ensures.ok))
     c.in_ok-insert.ensures.updates.2

@@ -1,4 +1,3 @@
-use Rattle.std.specs.Prelude.{vec_len, vec_capacity}
 use Rattle.std.proofs.Common.{◌≡◌, ℕ, ◌+◌, ◌-◌, ◌≤◌, ◌<◌, ◌^◌, min, Result, Ok, Err, OnOk, arith}
 use Rattle.wac_graph_core.proofs.definition.reserve_both.Goals as goal
 

@@ -1,4 +1,4 @@
-use Rattle.std.proofs.Common.{◌≡◌, ◌⊎◌, ap, subst, ◌∙◌}
+use Rattle.std.proofs.Common.{◌≡◌, refl, rules, ap, subst, ◌∙◌}
 use Rattle.std.proofs.lemmas.Result.{err_from_is_err_and}
 use Rattle.wac_types_base.specs.Collection.{IsAcyclic}
 use Rattle.wac_types_base.specs.Entries.{names_of, texts_of, AreDistinct}
@@ -6,14 +6,13 @@ use Rattle.wac_types_base.specs.Graph.{Among}
 use Rattle.wac_types_base.specs.Stated.{exports_of}
 use Rattle.wac_types_base.proofs.Adding.{All-among}
 use Rattle.wac_graph_core.specs.Graph.{ContainsPackage}
-use Rattle.wac_graph_plug.specs.declared.errors.PlugError.{PlugError}
 use Rattle.wac_graph_plug.specs.Steps.{ExportsAll}
-use Rattle.wac_graph_plug.specs.Stops.{PlugsAll, StopsAll, StopsExporting, socket_exports}
+use Rattle.wac_graph_plug.specs.Stops.{PlugsAll, StopsEach, StopsExporting, socket_exports}
 use Rattle.wac_graph_plug.proofs.Growing.{Grown-trans, Grown-instance, ContainsPackage-grown, HasExport-grown}
 use Rattle.wac_graph_core.proofs.Made.{instance_there}
 use Rattle.wac_graph_plug.proofs.Calls.{world_is, name_has}
-use Rattle.wac_graph_plug.proofs.Final.{is_plugged}
-use Rattle.wac_graph_plug.proofs.Whole.{refused_stop, cause_stop, refused_none, refused_export, cause_export, plugs_whole}
+use Rattle.wac_graph_plug.proofs.Final.{are_matched, is_plugged}
+use Rattle.wac_graph_plug.proofs.Whole.{refused_first, refused_stop, cause_stop, refused_none, refused_export, cause_export, plugs_whole}
 use Rattle.wac_graph_plug.proofs.plugging.plug.Goals as goal
 
 pub plug_each-requires-clause-plugs : goal.plug_each-requires-clause-plugs
@@ -30,6 +29,12 @@ pub plug_each-requires-clause-instance : goal.plug_each-requires-clause-instance
 plug_each-requires-clause-instance c =
     instance_there c.args.graph.now c.instantiate.new.self c.args.socket c.in_ok-instance.instance c.in_ok-instance.ensures.instantiated
 
+pub returns-in_err-names-clause-refused : goal.returns-in_err-names-clause-refused
+returns-in_err-names-clause-refused c = refused_first c.from_residual.result c.args.graph.now c.args.graph.now c.args.socket c.args.plugs.items refl (search rules)
+
+pub returns-in_err-instance-clause-refused : goal.returns-in_err-instance-clause-refused
+returns-in_err-instance-clause-refused c = refused_first c.from_residual-in_err-instance.result c.args.graph.now c.instantiate.new.self c.args.socket c.args.plugs.items c.in_err-instance.ensures.kept (search rules)
+
 pub returns-in_err-happened-clause-refused : goal.returns-in_err-happened-clause-refused
 returns-in_err-happened-clause-refused c =
     let g = c.args.graph.now in
@@ -39,8 +44,8 @@ returns-in_err-happened-clause-refused c =
     let ids = c.args.plugs.items in
     let made = c.in_ok-instance.ensures.instantiated in
     let grown = Grown-instance g first c.args.socket s made in
-    let stopped : (c.in_err-happened.field-0.0 ≡ PlugError.Memory) ⊎ StopsAll first second c.args.socket ids s c.in_err-happened.field-0.0 =
-    subst (λ l. (c.in_err-happened.field-0.0 ≡ PlugError.Memory) ⊎ StopsAll first second c.args.socket l s c.in_err-happened.field-0.0) c.as_slice.ensures.value c.in_err-happened.ensures.stopped in
+    let stopped : StopsEach first second c.args.socket ids s c.in_err-happened.field-0.0 =
+    subst (λ l. StopsEach first second c.args.socket l s c.in_err-happened.field-0.0) c.as_slice.ensures.value c.in_err-happened.ensures.stopped in
     let p = err_from_is_err_and c.from_residual-in_err-happened.result c.from_residual-in_err-happened.ensures.1 in
     rw (p.1, p.2) (refused_stop g first second c.args.socket ids s made c.in_err-happened.field-0.0 stopped)
 
@@ -53,8 +58,8 @@ returns-in_err-happened-clause-cause c =
     let ids = c.args.plugs.items in
     let made = c.in_ok-instance.ensures.instantiated in
     let grown = Grown-instance g first c.args.socket s made in
-    let stopped : (c.in_err-happened.field-0.0 ≡ PlugError.Memory) ⊎ StopsAll first second c.args.socket ids s c.in_err-happened.field-0.0 =
-    subst (λ l. (c.in_err-happened.field-0.0 ≡ PlugError.Memory) ⊎ StopsAll first second c.args.socket l s c.in_err-happened.field-0.0) c.as_slice.ensures.value c.in_err-happened.ensures.stopped in
+    let stopped : StopsEach first second c.args.socket ids s c.in_err-happened.field-0.0 =
+    subst (λ l. StopsEach first second c.args.socket l s c.in_err-happened.field-0.0) c.as_slice.ensures.value c.in_err-happened.ensures.stopped in
     let acyclic = subst IsAcyclic c.types.ensures c.see_acyclic.ensures in
     let p = err_from_is_err_and c.from_residual-in_err-happened.result c.from_residual-in_err-happened.ensures.1 in
     rw (p.1, p.2) (cause_stop g first second c.args.socket ids s made c.see_sound.ensures acyclic c.in_err-happened.field-0.0 stopped)
@@ -124,6 +129,21 @@ returns-clause-plugged c =
     let exported : ExportsAll s (socket_exports g c.args.socket) second c.export_all.new.graph =
     subst (λ l. ExportsAll s l second c.export_all.new.graph) (ap texts_of c.as_slice-2.ensures.value ∙ names) c.in_ok-export_all.ensures.exported in
     plugs_whole g first second c.export_all.new.graph c.args.socket ids s c.in_ok-happened.happened made plugged c.if-not-happened.false exported
+
+pub returns-clause-accepted : goal.returns-clause-accepted
+returns-clause-accepted c =
+    let g = c.args.graph.now in
+    let first = c.instantiate.new.self in
+    let second = c.plug_each.new.graph in
+    let s = c.in_ok-instance.instance in
+    let ids = c.args.plugs.items in
+    let made = c.in_ok-instance.ensures.instantiated in
+    let plugged : PlugsAll first second c.args.socket ids s c.in_ok-happened.happened = subst (λ l. PlugsAll first second c.args.socket l s c.in_ok-happened.happened) c.as_slice.ensures.value c.in_ok-happened.ensures.plugged in
+    let world = world_is g c.args.socket c.index.result.now c.types-2.result.now c.ty.result c.index.ensures c.ty.ensures c.types-2.ensures in
+    let names : texts_of c.in_ok-names.names.items ≡ socket_exports g c.args.socket = c.in_ok-names.ensures.names ∙ ap (λ w. names_of (exports_of w)) world in
+    let exported : ExportsAll s (socket_exports g c.args.socket) second c.export_all.new.graph =
+    subst (λ l. ExportsAll s l second c.export_all.new.graph) (ap texts_of c.as_slice-2.ensures.value ∙ names) c.in_ok-export_all.ensures.exported in
+    are_matched g c.export_all.new.graph c.args.socket ids c.see_sound.ensures (plugs_whole g first second c.export_all.new.graph c.args.socket ids s c.in_ok-happened.happened made plugged c.if-not-happened.false exported)
 
 pub returns-clause-wired : goal.returns-clause-wired
 returns-clause-wired c =

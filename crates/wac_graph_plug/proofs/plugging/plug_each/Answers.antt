@@ -1,4 +1,4 @@
-use Rattle.std.proofs.Common.{◌≡◌, ◌∙◌, ◌||◌, Bool, ap, get_or, subst, sym, inl, inr}
+use Rattle.std.proofs.Common.{◌≡◌, ◌∙◌, ◌||◌, Bool, ap, get_or, subst, sym, take, inl, inr}
 use Rattle.wac_graph_core.specs.declared.ids.PackageId.{PackageId}
 use Rattle.std.proofs.lemmas.List.{take_all}
 use Rattle.std.proofs.lemmas.Result.{err_from_is_err_and}
@@ -47,7 +47,15 @@ returns-in_err-yes-clause-stopped c =
     let at = get-place c.args.plugs.now c.loop-plug.plug-index id c.loop-plug-test.true is in
     let p = err_from_is_err_and c.from_residual.result c.from_residual.ensures.1 in
     rw (p.1, p.2) (elim c.in_err-yes.ensures.stopped [
-      | inl m ↦ inl m
+      | inl m ↦ inl (
+        m.0,
+        record {
+          count = c.loop-plug.plug-index;
+          fewer = c.loop-plug-test.true;
+          happened = c.loop-plug.happened;
+          plugged = subst (λ g. PlugsAll c.args.graph.now g c.args.socket (take c.loop-plug.plug-index c.args.plugs.now) c.args.instance c.loop-plug.happened) (sym m.1) c.loop-plug.invariant.0;
+        },
+      )
       | inr r ↦ inr (record {
         place = c.loop-plug.plug-index;
         id = id;

@@ -1,4 +1,4 @@
-use Rattle.std.proofs.Common.{Some, slice_get, sym, ap, ◌∙◌, subst, arith}
+use Rattle.std.proofs.Common.{slice_get, ap, ◌∙◌, arith}
 use Rattle.wac_graph_scopes.specs.declared.order.Turn.{Turn}
 use Rattle.wac_graph_scopes.proofs.OrderLaws.{last_pushed}
 use Rattle.wac_graph_scopes.proofs.order.last_turns.Goals as goal

@@ -2,7 +2,6 @@ use Rattle.std.proofs.lemmas.Result.{err_from_is_err_and}
 use Rattle.wac_types_base.proofs.Slots.{stands_borrow}
 use Rattle.wac_graph_scopes.proofs.HandleLaws.{borrow_written}
 use Rattle.wac_graph_scopes.proofs.UsedLaws.{root_of}
-use Rattle.wac_graph_scopes.specs.Refusals.{borrow_dangles}
 use Rattle.wac_graph_scopes.proofs.value.define_borrow.Goals as goal
 
 pub resource_of-requires : goal.resource_of-requires
@@ -19,7 +18,7 @@ pub returns-in_err-resource-clause-refused : goal.returns-in_err-resource-clause
 returns-in_err-resource-clause-refused c =
     let p = err_from_is_err_and c.from_residual.result c.from_residual.ensures.1 in
     let r = c.in_err-resource.ensures.refused in
-    rw (p.1, p.2, r) (borrow_dangles c.in_err-resource.ensures.unnamed)
+    rw (p.1, p.2, r) c.in_err-resource.ensures.unnamed
 
 pub returns-clause-entry : goal.returns-clause-entry
 returns-clause-entry c w outer i h = c.in_ok-index.ensures.entry c.args.types.now w outer i h

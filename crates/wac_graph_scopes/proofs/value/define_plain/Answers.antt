@@ -8,7 +8,7 @@ use Rattle.wac_types_fit.specs.Trees.{tree_in}
 use Rattle.wac_types_fit.proofs.Unfolded.{primitive_tree}
 use Rattle.wac_graph_bytes.specs.declared.value.ValueType.TheVariants.{Primitive}
 use Rattle.wac_graph_scopes.specs.Refusals.{RefusedApart}
-use Rattle.wac_graph_scopes.proofs.RefusedLaws.{if_err_map, refused_apart, parts_refused_apart}
+use Rattle.wac_graph_scopes.proofs.RefusedLaws.{if_err_map, own_refused_apart, borrow_refused_apart, parts_refused_apart}
 use Rattle.wac_graph_scopes.proofs.ValueLaws.{value_there}
 use Rattle.wac_graph_scopes.proofs.UsedLaws.{type_answered, type_of_tree, primitive_defined}
 use Rattle.wac_graph_scopes.proofs.value.define_plain.Goals as goal
@@ -65,14 +65,14 @@ returns-in-Own-clause-refused c =
     let types = c.args.types.now in
     let s = c.args.scope.now in
     let u = c.define_own.new.scope in
-    if_err_map c.define_own.result (λ e h. subst (λ v. RefusedApart types (ItemKind.Value v) s u e) (sym c.in-Own.is) (refused_apart types (ItemKind.Value (ValueType.Own c.in-Own.id)) s u e h)) c.define_own.ensures.refused
+    if_err_map c.define_own.result (λ e h. subst (λ v. RefusedApart types (ItemKind.Value v) s u e) (sym c.in-Own.is) (own_refused_apart types c.in-Own.id s u e h)) c.define_own.ensures.refused
 
 pub returns-in-Borrow-clause-refused : goal.returns-in-Borrow-clause-refused
 returns-in-Borrow-clause-refused c =
     let types = c.args.types.now in
     let s = c.args.scope.now in
     let u = c.define_borrow.new.scope in
-    if_err_map c.define_borrow.result (λ e h. subst (λ v. RefusedApart types (ItemKind.Value v) s u e) (sym c.in-Borrow.is) (refused_apart types (ItemKind.Value (ValueType.Borrow c.in-Borrow.id)) s u e h)) c.define_borrow.ensures.refused
+    if_err_map c.define_borrow.result (λ e h. subst (λ v. RefusedApart types (ItemKind.Value v) s u e) (sym c.in-Borrow.is) (borrow_refused_apart types c.in-Borrow.id s u e h)) c.define_borrow.ensures.refused
 
 pub returns-in-Defined-clause-refused : goal.returns-in-Defined-clause-refused
 returns-in-Defined-clause-refused c =

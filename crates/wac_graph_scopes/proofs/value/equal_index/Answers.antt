@@ -1,7 +1,9 @@
 use Rattle.std.proofs.Common.{List, sym, ap, subst, ◌∙◌}
 use Rattle.std.specs.Prelude.{IfNone}
+use Rattle.wac_types_base.specs.declared.item.ItemKind.{ItemKind}
+use Rattle.wac_types_fit.specs.Trees.{tree_in}
 use Rattle.wac_graph_scopes.specs.declared.scope.KnownType.{KnownType}
-use Rattle.wac_graph_scopes.specs.Known.{type_tree, HasTree}
+use Rattle.wac_graph_scopes.specs.Known.{HasTree}
 use Rattle.wac_graph_scopes.proofs.PlaceLaws.{scope_of_on, if_none_some}
 use Rattle.wac_graph_scopes.proofs.value.equal_index.Goals as goal
 
@@ -19,4 +21,4 @@ returns-clause-none c h =
     let types = c.args.types.now in
     let s = c.args.scope.now in
     let mid = c.place_of.new.scope in
-    subst (λ (l : List KnownType). IfNone c.in_ok-found-2.found (HasTree types l (type_tree types c.args.id) → ⊥)) (ap (λ v. v.items) c.place_of.ensures.known) (c.in_ok-found-2.ensures.none (scope_of_on types s mid c.place_of.ensures.keeps h))
+    subst (λ (l : List KnownType). IfNone c.in_ok-found-2.found (HasTree types l (tree_in types (ItemKind.Value c.args.ty)) → ⊥)) (ap (λ v. v.items) c.place_of.ensures.known) (c.in_ok-found-2.ensures.none (scope_of_on types s mid c.place_of.ensures.keeps h))

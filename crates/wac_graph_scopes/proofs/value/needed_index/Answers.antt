@@ -1,5 +1,4 @@
 use Rattle.std.proofs.Common.{subst}
-use Rattle.std.specs.Prelude.{IfSome}
 use Rattle.wac_types_base.specs.declared.item.ItemKind.{ItemKind}
 use Rattle.wac_types_base.specs.declared.item.ValueType.{ValueType}
 use Rattle.wac_graph_scopes.specs.Scopes.{FindsType, FindsTree}
@@ -8,7 +7,7 @@ use Rattle.wac_graph_scopes.proofs.value.needed_index.Goals as goal
 
 pub returns-in-None-clause-none : goal.returns-in-None-clause-none
 returns-in-None-clause-none c h same =
-    let unknown = subst (FindsTree c.args.types.now c.args.scope.now c.args.id) c.in-None.is c.in_ok-found.ensures.none in
+    let unknown = subst (FindsTree c.args.types.now c.args.scope.now (ValueType.Defined c.args.id)) c.in-None.is c.in_ok-found.ensures.none in
     absurd (unknown h same)
 
 pub returns-then-lacks-clause-reads : goal.returns-then-lacks-clause-reads

@@ -2,7 +2,6 @@ use Rattle.std.proofs.Common.{◌≡◌, ◌∷◌, Some, refl, sym, ap, subst, 
 use Rattle.indexmap.proofs.MapLemmas.{OnOk-map}
 use Rattle.wac_types_base.specs.declared.ids.DefinedTypeId.{DefinedTypeId}
 use Rattle.wac_types_base.specs.declared.item.ItemKind.{ItemKind}
-use Rattle.wac_types_base.specs.declared.item.ValueType.{ValueType}
 use Rattle.wac_types_base.specs.Collection.{Stands}
 use Rattle.wac_types_base.specs.Tree.{tree_of}
 use Rattle.wac_types_fit.specs.Trees.{tree_in}

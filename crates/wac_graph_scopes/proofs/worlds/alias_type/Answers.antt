@@ -1,4 +1,4 @@
-use Rattle.std.proofs.Common.{refl, ◌∷◌}
+use Rattle.std.proofs.Common.{refl}
 use Rattle.wac_types_fit.specs.Trees.{tree_in}
 use Rattle.wac_graph_scopes.proofs.ImportLaws.{source_on}
 use Rattle.wac_graph_scopes.proofs.worlds.alias_type.Goals as goal

@@ -1,7 +1,6 @@
 use Rattle.std.proofs.Common.{◌∷◌, refl}
 use Rattle.wac_graph_scopes.specs.Parts.{exports_of}
 use Rattle.wac_graph_scopes.proofs.WritingLaws.{value_here}
-use Rattle.wac_graph_scopes.proofs.PartLaws.{exports_there}
 use Rattle.wac_graph_scopes.proofs.ImportLaws.{instance_source}
 use Rattle.wac_graph_scopes.proofs.worlds.alias_type_at.Goals as goal
 

@@ -9,6 +9,8 @@ use Rattle.wac_parser_refusals.proofs.Outcomes.{after_refused, memory_outcome, r
 use Rattle.wac_parser_declare.specs.Declarations.{param, result_of, function}
 use Rattle.wac_parser_declare.specs.Holding.{AreNamedValues, IsFunc, IsValueIf, scope_of, self_params, stated_if, stated_value}
 use Rattle.wac_parser_declare.proofs.Members.{function_held, refused_over, result_kept, result_refused, self_given}
+use Rattle.wac_types_base.proofs.Adding.{Grows-trans}
+use Rattle.wac_parser_declare.proofs.Known.{same_trans}
 use Rattle.wac_parser_declare.proofs.Fresh.{func_newer}
 use Rattle.wac_parser_declare.proofs.functions.function.Goals as goal
 
@@ -81,3 +83,25 @@ pub returns-clause-fresh : goal.returns-clause-fresh
 returns-clause-fresh g c =
     func_newer (g.T.GrowingTypes.collection c.args.types.now) (g.T.GrowingTypes.collection c.add_params.new.types) c.in_ok-id.id c.in_ok-add_params.ensures.grows
     (func_newer (g.T.GrowingTypes.collection c.add_params.new.types) (g.T.GrowingTypes.collection c.result_type.new.types) c.in_ok-id.id c.in_ok-result.ensures.grows c.in_ok-id.ensures.fresh)
+
+pub returns-in_err-result-clause-grows : goal.returns-in_err-result-clause-grows
+returns-in_err-result-clause-grows g c = Grows-trans _ _ _ c.in_ok-add_params.ensures.grows c.in_err-result.ensures.grows
+
+pub returns-in_err-id-clause-grows : goal.returns-in_err-id-clause-grows
+returns-in_err-id-clause-grows g c =
+    Grows-trans _ _ _ c.in_ok-add_params.ensures.grows (Grows-trans _ _ _ c.in_ok-result.ensures.grows c.in_err-id.ensures.grows)
+
+pub returns-clause-grows : goal.returns-clause-grows
+returns-clause-grows g c =
+    Grows-trans _ _ _ c.in_ok-add_params.ensures.grows (Grows-trans _ _ _ c.in_ok-result.ensures.grows c.in_ok-id.ensures.grows)
+
+pub returns-in_err-result-clause-packages : goal.returns-in_err-result-clause-packages
+returns-in_err-result-clause-packages g c = same_trans _ _ _ c.in_ok-add_params.ensures.packages c.in_err-result.ensures.packages
+
+pub returns-in_err-id-clause-packages : goal.returns-in_err-id-clause-packages
+returns-in_err-id-clause-packages g c =
+    same_trans _ _ _ c.in_ok-add_params.ensures.packages (same_trans _ _ _ c.in_ok-result.ensures.packages c.in_err-id.ensures.packages)
+
+pub returns-clause-packages : goal.returns-clause-packages
+returns-clause-packages g c =
+    same_trans _ _ _ c.in_ok-add_params.ensures.packages (same_trans _ _ _ c.in_ok-result.ensures.packages c.in_ok-id.ensures.packages)

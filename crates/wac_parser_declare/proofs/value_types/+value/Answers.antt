@@ -290,3 +290,48 @@ maybe_type-returns-in_ok-found-in-Some-clause-names g t c = NamesStand-kept (g.T
 
 pub maybe_type-returns-in-None-clause-names : goal.maybe_type-returns-in-None-clause-names
 maybe_type-returns-in-None-clause-names g t c = c.requires
+
+pub list_type-returns-in_err-list-clause-packages : goal.list_type-returns-in_err-list-clause-packages
+list_type-returns-in_err-list-clause-packages g t c = same_trans _ _ _ c.in_ok-element.ensures.packages c.in_err-list.ensures.packages
+
+pub list_type-returns-clause-packages : goal.list_type-returns-clause-packages
+list_type-returns-clause-packages g t c = same_trans _ _ _ c.in_ok-element.ensures.packages c.in_ok-list.ensures.packages
+
+pub option_type-returns-in_err-option-clause-packages : goal.option_type-returns-in_err-option-clause-packages
+option_type-returns-in_err-option-clause-packages g t c = same_trans _ _ _ c.in_ok-payload.ensures.packages c.in_err-option.ensures.packages
+
+pub option_type-returns-clause-packages : goal.option_type-returns-clause-packages
+option_type-returns-clause-packages g t c = same_trans _ _ _ c.in_ok-payload.ensures.packages c.in_ok-option.ensures.packages
+
+pub stream_type-returns-in_err-stream-clause-packages : goal.stream_type-returns-in_err-stream-clause-packages
+stream_type-returns-in_err-stream-clause-packages g t c = same_trans _ _ _ c.in_ok-payload.ensures.packages c.in_err-stream.ensures.packages
+
+pub stream_type-returns-clause-packages : goal.stream_type-returns-clause-packages
+stream_type-returns-clause-packages g t c = same_trans _ _ _ c.in_ok-payload.ensures.packages c.in_ok-stream.ensures.packages
+
+pub future_type-returns-in_err-future-clause-packages : goal.future_type-returns-in_err-future-clause-packages
+future_type-returns-in_err-future-clause-packages g t c = same_trans _ _ _ c.in_ok-payload.ensures.packages c.in_err-future.ensures.packages
+
+pub future_type-returns-clause-packages : goal.future_type-returns-clause-packages
+future_type-returns-clause-packages g t c = same_trans _ _ _ c.in_ok-payload.ensures.packages c.in_ok-future.ensures.packages
+
+pub tuple_type-returns-in_err-tuple-clause-packages : goal.tuple_type-returns-in_err-tuple-clause-packages
+tuple_type-returns-in_err-tuple-clause-packages g t c = same_trans _ _ _ c.in_ok-found.ensures.packages c.in_err-tuple.ensures.packages
+
+pub tuple_type-returns-clause-packages : goal.tuple_type-returns-clause-packages
+tuple_type-returns-clause-packages g t c = same_trans _ _ _ c.in_ok-found.ensures.packages c.in_ok-tuple.ensures.packages
+
+pub result_type-returns-in_err-result-clause-packages : goal.result_type-returns-in_err-result-clause-packages
+result_type-returns-in_err-result-clause-packages g t c = same_trans _ _ _ c.in_ok-err.ensures.packages c.in_err-result.ensures.packages
+
+pub result_type-returns-clause-packages : goal.result_type-returns-clause-packages
+result_type-returns-clause-packages g t c = same_trans _ _ _ c.in_ok-err.ensures.packages c.in_ok-result.ensures.packages
+
+pub member_types-returns-in_err-ty-clause-packages : goal.member_types-returns-in_err-ty-clause-packages
+member_types-returns-in_err-ty-clause-packages g t c = same_trans _ _ _ c.loop-member.invariant.packages c.in_err-ty.ensures.packages
+
+pub member_types-returns-in_err-push-clause-packages : goal.member_types-returns-in_err-push-clause-packages
+member_types-returns-in_err-push-clause-packages g t c = same_trans _ _ _ c.loop-member.invariant.packages c.in_ok-ty.ensures.packages
+
+pub value_type-returns-in_ok-ok-in-Result-clause-packages : goal.value_type-returns-in_ok-ok-in-Result-clause-packages
+value_type-returns-in_ok-ok-in-Result-clause-packages g t c = same_trans _ _ _ c.in_ok-ok-in-Result.ensures.packages c.result_type.ensures.packages

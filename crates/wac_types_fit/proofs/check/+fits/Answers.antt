@@ -1,9 +1,10 @@
-use Rattle.std.proofs.Common.{[], Some, None, sym, ap, ◌∙◌, inl, inr, arith}
+use Rattle.std.proofs.Common.{[], Some, None, sym, subst, ap, ◌∙◌, inl, inr, arith}
 use Rattle.wac_types_base.specs.declared.item.ItemKind.{ItemKind}
 use Rattle.wac_types_base.specs.Fits.{Fits}
 use Rattle.wac_types_fit.specs.Frames.{Disagree}
 use Rattle.wac_types_fit.specs.Trees.{tree_in}
 use Rattle.wac_types_fit.specs.Checking.{module_tree}
+use Rattle.wac_types_fit.proofs.TreeLaws.{Fits-refl}
 use Rattle.wac_types_fit.proofs.Unfolded.{module_tree as tree_of_module}
 use Rattle.wac_types_fit.proofs.ItemKinds.{other_type, other_func, other_instance, other_component, other_module, other_value, other_resource_type, other_func_type, other_value_type, other_interface_type, other_world_type, other_module_type}
 use Rattle.wac_types_fit.proofs.Items.{exports_inside, world_imports_inside, world_exports_inside, found_inside, instance_gives, instance_misses, component_gives, exports_miss, imports_miss, among-value_at, gives_more}
@@ -18,32 +19,32 @@ use Rattle.std.proofs.lemmas.Result.{err_from_is_err_and}
 use Rattle.wac_types_base.proofs.Looked.{among-get}
 
 pub fits-returns-in-Ok-clause-only : goal.fits-returns-in-Ok-clause-only
-fits-returns-in-Ok-clause-only t c =
-    only_trans c.args.sides.given.now c.args.sides.asked.now c.args.cache.now.keys c.unfolded.new.cache.keys c.remember.new.cache.keys c.unfolded.ensures.only
-    (only_more c.args.sides.given.now c.args.sides.asked.now c.unfolded.new.cache.keys c.remember.new.cache.keys c.args.a c.args.b (record { given = c.requires.given; asked = c.requires.asked; fits = c.in_ok-unfolded.ensures.yes }) c.remember.ensures.only)
+fits-returns-in-Ok-clause-only t c = λ was.
+    only_trans c.args.sides.given.now c.args.sides.asked.now c.args.cache.now.keys c.unfolded.new.cache.keys c.remember.new.cache.keys (c.unfolded.ensures.only was)
+    (only_more c.args.sides.given.now c.args.sides.asked.now c.unfolded.new.cache.keys c.remember.new.cache.keys c.args.a c.args.b (record { given = c.requires.given; asked = c.requires.asked; fits = c.in_ok-unfolded.ensures.yes was }) c.remember.ensures.only)
 
 pub fits-returns-in-Ok-clause-cache : goal.fits-returns-in-Ok-clause-cache
-fits-returns-in-Ok-clause-cache t c =
-    remember_true c.args.sides.given.now c.args.sides.asked.now c.see_acyclic.ensures c.see_acyclic-2.ensures c.requires.apart c.unfolded.new.cache.keys c.remember.new.cache.keys c.args.a c.args.b c.requires.given c.requires.asked c.in_ok-unfolded.ensures.yes c.unfolded.ensures.cache c.remember.ensures.only
+fits-returns-in-Ok-clause-cache t c = λ was.
+    remember_true c.args.sides.given.now c.args.sides.asked.now c.see_acyclic.ensures c.see_acyclic-2.ensures c.requires.apart c.unfolded.new.cache.keys c.remember.new.cache.keys c.args.a c.args.b c.requires.given c.requires.asked (c.in_ok-unfolded.ensures.yes was) (c.unfolded.ensures.cache was) c.remember.ensures.only
 
 pub fits-returns-in-Err-clause-only : goal.fits-returns-in-Err-clause-only
-fits-returns-in-Err-clause-only t c =
-    only_trans c.args.sides.given.now c.args.sides.asked.now c.args.cache.now.keys c.unfolded.new.cache.keys c.remember.new.cache.keys c.unfolded.ensures.only
-    (only_more c.args.sides.given.now c.args.sides.asked.now c.unfolded.new.cache.keys c.remember.new.cache.keys c.args.a c.args.b (record { given = c.requires.given; asked = c.requires.asked; fits = c.in_ok-unfolded.ensures.yes }) c.remember.ensures.only)
+fits-returns-in-Err-clause-only t c = λ was.
+    only_trans c.args.sides.given.now c.args.sides.asked.now c.args.cache.now.keys c.unfolded.new.cache.keys c.remember.new.cache.keys (c.unfolded.ensures.only was)
+    (only_more c.args.sides.given.now c.args.sides.asked.now c.unfolded.new.cache.keys c.remember.new.cache.keys c.args.a c.args.b (record { given = c.requires.given; asked = c.requires.asked; fits = c.in_ok-unfolded.ensures.yes was }) c.remember.ensures.only)
 
 pub fits-returns-in-Err-clause-cache : goal.fits-returns-in-Err-clause-cache
-fits-returns-in-Err-clause-cache t c =
-    remember_true c.args.sides.given.now c.args.sides.asked.now c.see_acyclic.ensures c.see_acyclic-2.ensures c.requires.apart c.unfolded.new.cache.keys c.remember.new.cache.keys c.args.a c.args.b c.requires.given c.requires.asked c.in_ok-unfolded.ensures.yes c.unfolded.ensures.cache c.remember.ensures.only
+fits-returns-in-Err-clause-cache t c = λ was.
+    remember_true c.args.sides.given.now c.args.sides.asked.now c.see_acyclic.ensures c.see_acyclic-2.ensures c.requires.apart c.unfolded.new.cache.keys c.remember.new.cache.keys c.args.a c.args.b c.requires.given c.requires.asked (c.in_ok-unfolded.ensures.yes was) (c.unfolded.ensures.cache was) c.remember.ensures.only
 
 pub instances_fit-items_fit-requires : goal.instances_fit-items_fit-requires
 instances_fit-items_fit-requires t c =
     let s = exports_inside c.args.sides.given.now c.interface-given.ensures.acyclic c.args.a c.interface-given.result.now c.requires.given c.interface-given.ensures.entry c.interface-given.ensures.own in
     let r = exports_inside c.args.sides.asked.now c.interface-asked.ensures.acyclic c.args.b c.interface-asked.result.now c.requires.asked c.interface-asked.ensures.entry c.interface-asked.ensures.own in
-    (omega (arith, c.decreases), (s, (r, (c.requires.apart, c.requires.cache))))
+    (omega (arith, c.decreases), (s, (r, c.requires.apart)))
 
 pub instances_fit-returns-clause-yes : goal.instances_fit-returns-clause-yes
 instances_fit-returns-clause-yes t c =
-    on_ok c.items_fit.result _ _ c.items_fit.ensures.yes (instance_gives c.args.sides.given.now c.args.sides.asked.now c.interface-given.ensures.acyclic c.interface-asked.ensures.acyclic c.args.a c.args.b c.interface-given.result.now c.interface-asked.result.now c.interface-given.ensures.entry c.interface-given.ensures.own c.interface-asked.ensures.entry c.interface-asked.ensures.own)
+    on_ok c.items_fit.result _ _ c.items_fit.ensures.yes (λ h was. instance_gives c.args.sides.given.now c.args.sides.asked.now c.interface-given.ensures.acyclic c.interface-asked.ensures.acyclic c.args.a c.args.b c.interface-given.result.now c.interface-asked.result.now c.interface-given.ensures.entry c.interface-given.ensures.own c.interface-asked.ensures.entry c.interface-asked.ensures.own (h was))
 
 pub instances_fit-returns-clause-no : goal.instances_fit-returns-clause-no
 instances_fit-returns-clause-no t c ss e =
@@ -53,7 +54,7 @@ instances_fit-returns-clause-no t c ss e =
 pub item_fits-fits-requires : goal.item_fits-fits-requires
 item_fits-fits-requires t c =
     let s = found_inside c.args.sides.given.now c.args.given.of c.args.given.items.now c.requires.given c.args.asked.name.now c.in-Some.found.now (sym c.in-Some.ensures) in
-    (omega (arith, s.1, c.decreases), (s.0, (c.requires.asked, (c.requires.apart, c.requires.cache))))
+    (omega (arith, s.1, c.decreases), (s.0, (c.requires.asked, c.requires.apart)))
 
 pub item_fits-returns-in-None-clause-no : goal.item_fits-returns-in-None-clause-no
 item_fits-returns-in-None-clause-no t c ss e =
@@ -70,14 +71,15 @@ items_fit-item_fits-requires t c =
     let n = c.entry.result.0.now in
     let k = c.entry.result.1.now in
     let s = c.requires.asked n k (among-get c.args.asked.items.now c.loop-index.index (n, k) c.entry.ensures) in
-    (omega (arith, s.1, c.decreases), (c.requires.given, (s.0, (c.requires.apart, c.loop-index.invariant.cache))))
+    (omega (arith, s.1, c.decreases), (c.requires.given, (s.0, c.requires.apart)))
 
 pub items_fit-loop-index-preserved : goal.items_fit-loop-index-preserved
-items_fit-loop-index-preserved t c = record {
-  each = gives_more c.args.sides.given.now c.args.sides.asked.now c.args.given.items.now c.args.asked.items.now c.loop-index.index c.entry.result.0.now c.entry.result.1.now c.entry.ensures c.loop-index.invariant.each c.in_ok-item_fits.ensures.yes;
-  only = only_trans c.args.sides.given.now c.args.sides.asked.now c.args.cache.now.keys c.loop-index.cache.keys c.item_fits.new.cache.keys c.loop-index.invariant.only c.item_fits.ensures.only;
-  cache = c.item_fits.ensures.cache;
-}
+items_fit-loop-index-preserved t c = λ was.
+    let so = c.loop-index.invariant was in (
+      gives_more c.args.sides.given.now c.args.sides.asked.now c.args.given.items.now c.args.asked.items.now c.loop-index.index c.entry.result.0.now c.entry.result.1.now c.entry.ensures so.0 (c.in_ok-item_fits.ensures.yes so.2),
+      only_trans c.args.sides.given.now c.args.sides.asked.now c.args.cache.now.keys c.loop-index.cache.keys c.item_fits.new.cache.keys so.1 (c.item_fits.ensures.only so.2),
+      c.item_fits.ensures.cache so.2,
+    )
 
 pub items_fit-returns-in_err-item_fits-clause-no : goal.items_fit-returns-in_err-item_fits-clause-no
 items_fit-returns-in_err-item_fits-clause-no t c =
@@ -127,10 +129,10 @@ pub types_fit-instances_fit-requires : goal.types_fit-instances_fit-requires
 types_fit-instances_fit-requires t c =
     let s = interface_type_size c.args.sides.given.now c.see_acyclic.ensures c.args.a c.in-Interface-Interface.i c.in-Interface-Interface.is-0 c.requires.given in
     let r = interface_type_size c.args.sides.asked.now c.see_acyclic-2.ensures c.args.b c.in-Interface-Interface.j c.in-Interface-Interface.is-1 c.requires.asked in
-    (omega (arith, s, r, c.decreases), (interface_type_stands c.args.sides.given.now c.args.a c.in-Interface-Interface.i c.in-Interface-Interface.is-0 c.requires.given, (interface_type_stands c.args.sides.asked.now c.args.b c.in-Interface-Interface.j c.in-Interface-Interface.is-1 c.requires.asked, (c.requires.apart, c.requires.cache))))
+    (omega (arith, s, r, c.decreases), (interface_type_stands c.args.sides.given.now c.args.a c.in-Interface-Interface.i c.in-Interface-Interface.is-0 c.requires.given, (interface_type_stands c.args.sides.asked.now c.args.b c.in-Interface-Interface.j c.in-Interface-Interface.is-1 c.requires.asked, c.requires.apart)))
 
 pub types_fit-returns-in-Interface-Interface-clause-yes : goal.types_fit-returns-in-Interface-Interface-clause-yes
-types_fit-returns-in-Interface-Interface-clause-yes t c = on_ok c.instances_fit.result _ _ c.instances_fit.ensures.yes (types_fit_as c.args.sides.given.now c.args.sides.asked.now (ItemKind.Ty c.args.a) (ItemKind.Ty c.args.b) (ItemKind.Instance c.in-Interface-Interface.i) (ItemKind.Instance c.in-Interface-Interface.j) (interface_type_is c.args.sides.given.now c.see_acyclic.ensures c.args.a c.in-Interface-Interface.i c.in-Interface-Interface.is-0 c.requires.given) (interface_type_is c.args.sides.asked.now c.see_acyclic-2.ensures c.args.b c.in-Interface-Interface.j c.in-Interface-Interface.is-1 c.requires.asked))
+types_fit-returns-in-Interface-Interface-clause-yes t c = on_ok c.instances_fit.result _ _ c.instances_fit.ensures.yes (λ h was. types_fit_as c.args.sides.given.now c.args.sides.asked.now (ItemKind.Ty c.args.a) (ItemKind.Ty c.args.b) (ItemKind.Instance c.in-Interface-Interface.i) (ItemKind.Instance c.in-Interface-Interface.j) (interface_type_is c.args.sides.given.now c.see_acyclic.ensures c.args.a c.in-Interface-Interface.i c.in-Interface-Interface.is-0 c.requires.given) (interface_type_is c.args.sides.asked.now c.see_acyclic-2.ensures c.args.b c.in-Interface-Interface.j c.in-Interface-Interface.is-1 c.requires.asked) (h was))
 
 pub types_fit-returns-in-Interface-Interface-clause-no : goal.types_fit-returns-in-Interface-Interface-clause-no
 types_fit-returns-in-Interface-Interface-clause-no t c ss e = types_disagree_as c.args.sides.given.now c.args.sides.asked.now (ItemKind.Ty c.args.a) (ItemKind.Ty c.args.b) (ItemKind.Instance c.in-Interface-Interface.i) (ItemKind.Instance c.in-Interface-Interface.j) (interface_type_is c.args.sides.given.now c.see_acyclic.ensures c.args.a c.in-Interface-Interface.i c.in-Interface-Interface.is-0 c.requires.given) (interface_type_is c.args.sides.asked.now c.see_acyclic-2.ensures c.args.b c.in-Interface-Interface.j c.in-Interface-Interface.is-1 c.requires.asked) ss (c.instances_fit.ensures.no ss e)
@@ -139,10 +141,10 @@ pub types_fit-worlds_fit-requires : goal.types_fit-worlds_fit-requires
 types_fit-worlds_fit-requires t c =
     let s = world_type_size c.args.sides.given.now c.see_acyclic.ensures c.args.a c.in-World-World.i c.in-World-World.is-0 c.requires.given in
     let r = world_type_size c.args.sides.asked.now c.see_acyclic-2.ensures c.args.b c.in-World-World.j c.in-World-World.is-1 c.requires.asked in
-    (omega (arith, s, r, c.decreases), (world_type_stands c.args.sides.given.now c.args.a c.in-World-World.i c.in-World-World.is-0 c.requires.given, (world_type_stands c.args.sides.asked.now c.args.b c.in-World-World.j c.in-World-World.is-1 c.requires.asked, (c.requires.apart, c.requires.cache))))
+    (omega (arith, s, r, c.decreases), (world_type_stands c.args.sides.given.now c.args.a c.in-World-World.i c.in-World-World.is-0 c.requires.given, (world_type_stands c.args.sides.asked.now c.args.b c.in-World-World.j c.in-World-World.is-1 c.requires.asked, c.requires.apart)))
 
 pub types_fit-returns-in-World-World-clause-yes : goal.types_fit-returns-in-World-World-clause-yes
-types_fit-returns-in-World-World-clause-yes t c = on_ok c.worlds_fit.result _ _ c.worlds_fit.ensures.yes (types_fit_as c.args.sides.given.now c.args.sides.asked.now (ItemKind.Ty c.args.a) (ItemKind.Ty c.args.b) (ItemKind.Component c.in-World-World.i) (ItemKind.Component c.in-World-World.j) (world_type_is c.args.sides.given.now c.see_acyclic.ensures c.args.a c.in-World-World.i c.in-World-World.is-0 c.requires.given) (world_type_is c.args.sides.asked.now c.see_acyclic-2.ensures c.args.b c.in-World-World.j c.in-World-World.is-1 c.requires.asked))
+types_fit-returns-in-World-World-clause-yes t c = on_ok c.worlds_fit.result _ _ c.worlds_fit.ensures.yes (λ h was. types_fit_as c.args.sides.given.now c.args.sides.asked.now (ItemKind.Ty c.args.a) (ItemKind.Ty c.args.b) (ItemKind.Component c.in-World-World.i) (ItemKind.Component c.in-World-World.j) (world_type_is c.args.sides.given.now c.see_acyclic.ensures c.args.a c.in-World-World.i c.in-World-World.is-0 c.requires.given) (world_type_is c.args.sides.asked.now c.see_acyclic-2.ensures c.args.b c.in-World-World.j c.in-World-World.is-1 c.requires.asked) (h was))
 
 pub types_fit-returns-in-World-World-clause-no : goal.types_fit-returns-in-World-World-clause-no
 types_fit-returns-in-World-World-clause-no t c ss e = types_disagree_as c.args.sides.given.now c.args.sides.asked.now (ItemKind.Ty c.args.a) (ItemKind.Ty c.args.b) (ItemKind.Component c.in-World-World.i) (ItemKind.Component c.in-World-World.j) (world_type_is c.args.sides.given.now c.see_acyclic.ensures c.args.a c.in-World-World.i c.in-World-World.is-0 c.requires.given) (world_type_is c.args.sides.asked.now c.see_acyclic-2.ensures c.args.b c.in-World-World.j c.in-World-World.is-1 c.requires.asked) ss (c.worlds_fit.ensures.no ss e)
@@ -155,7 +157,7 @@ types_fit-module_type-asked-requires t c = module_type_stands c.args.sides.asked
 
 pub types_fit-returns-in-Module-Module-clause-yes : goal.types_fit-returns-in-Module-Module-clause-yes
 types_fit-returns-in-Module-Module-clause-yes t c =
-    on_ok c.modules_fit.result _ _ c.modules_fit.ensures.yes (λ f. types_fit_as c.args.sides.given.now c.args.sides.asked.now (ItemKind.Ty c.args.a) (ItemKind.Ty c.args.b) (ItemKind.Module c.in-Module-Module.i) (ItemKind.Module c.in-Module-Module.j) (module_type_is c.args.sides.given.now c.see_acyclic.ensures c.args.a c.in-Module-Module.i c.in-Module-Module.is-0 c.requires.given) (module_type_is c.args.sides.asked.now c.see_acyclic-2.ensures c.args.b c.in-Module-Module.j c.in-Module-Module.is-1 c.requires.asked)
+    on_ok c.modules_fit.result _ _ c.modules_fit.ensures.yes (λ f was. types_fit_as c.args.sides.given.now c.args.sides.asked.now (ItemKind.Ty c.args.a) (ItemKind.Ty c.args.b) (ItemKind.Module c.in-Module-Module.i) (ItemKind.Module c.in-Module-Module.j) (module_type_is c.args.sides.given.now c.see_acyclic.ensures c.args.a c.in-Module-Module.i c.in-Module-Module.is-0 c.requires.given) (module_type_is c.args.sides.asked.now c.see_acyclic-2.ensures c.args.b c.in-Module-Module.j c.in-Module-Module.is-1 c.requires.asked)
     (with_trees Fits (tree_in c.args.sides.given.now (ItemKind.Module c.in-Module-Module.i)) (module_tree c.module_type-given.result.now) (tree_in c.args.sides.asked.now (ItemKind.Module c.in-Module-Module.j)) (module_tree c.module_type-asked.result.now) (tree_of_module c.args.sides.given.now c.see_acyclic.ensures c.in-Module-Module.i c.module_type-given.result.now c.module_type-given.ensures.entry c.module_type-given.ensures.own) (tree_of_module c.args.sides.asked.now c.see_acyclic-2.ensures c.in-Module-Module.j c.module_type-asked.result.now c.module_type-asked.ensures.entry c.module_type-asked.ensures.own) f))
 
 pub types_fit-returns-in-Module-Module-clause-no : goal.types_fit-returns-in-Module-Module-clause-no
@@ -177,9 +179,14 @@ unfolded-differ-requires t c = record {
   ];
 }
 
+pub unfolded-returns-then-is_one-clause-yes : goal.unfolded-returns-then-is_one-clause-yes
+unfolded-returns-then-is_one-clause-yes t c = λ was.
+    let same = c.is_one.ensures c.if-is_one.true in
+    subst (Fits (tree_in c.args.sides.given.now c.args.a)) same (Fits-refl (tree_in c.args.sides.given.now c.args.a))
+
 pub unfolded-returns-in-Module-Module-clause-yes : goal.unfolded-returns-in-Module-Module-clause-yes
 unfolded-returns-in-Module-Module-clause-yes t c =
-    on_ok c.modules_fit.result _ _ c.modules_fit.ensures.yes (with_trees Fits (tree_in c.args.sides.given.now c.args.a) (module_tree c.module_type-given.result.now) (tree_in c.args.sides.asked.now c.args.b) (module_tree c.module_type-asked.result.now) (ap (tree_in c.args.sides.given.now) c.in-Module-Module.is-0 ∙ tree_of_module c.args.sides.given.now c.see_acyclic.ensures c.in-Module-Module.i c.module_type-given.result.now c.module_type-given.ensures.entry c.module_type-given.ensures.own) (ap (tree_in c.args.sides.asked.now) c.in-Module-Module.is-1 ∙ tree_of_module c.args.sides.asked.now c.see_acyclic-2.ensures c.in-Module-Module.j c.module_type-asked.result.now c.module_type-asked.ensures.entry c.module_type-asked.ensures.own))
+    on_ok c.modules_fit.result _ _ c.modules_fit.ensures.yes (λ f was. with_trees Fits (tree_in c.args.sides.given.now c.args.a) (module_tree c.module_type-given.result.now) (tree_in c.args.sides.asked.now c.args.b) (module_tree c.module_type-asked.result.now) (ap (tree_in c.args.sides.given.now) c.in-Module-Module.is-0 ∙ tree_of_module c.args.sides.given.now c.see_acyclic.ensures c.in-Module-Module.i c.module_type-given.result.now c.module_type-given.ensures.entry c.module_type-given.ensures.own) (ap (tree_in c.args.sides.asked.now) c.in-Module-Module.is-1 ∙ tree_of_module c.args.sides.asked.now c.see_acyclic-2.ensures c.in-Module-Module.j c.module_type-asked.result.now c.module_type-asked.ensures.entry c.module_type-asked.ensures.own) f)
 
 pub unfolded-returns-in-Module-Module-clause-no : goal.unfolded-returns-in-Module-Module-clause-no
 unfolded-returns-in-Module-Module-clause-no t c ss e =
@@ -189,7 +196,7 @@ pub worlds_fit-items_fit-requires : goal.worlds_fit-items_fit-requires
 worlds_fit-items_fit-requires t c =
     let s = world_imports_inside c.args.sides.given.now c.world-given.ensures.acyclic c.args.a c.world-given.result.now c.requires.given c.world-given.ensures.entry c.world-given.ensures.own in
     let r = world_imports_inside c.args.sides.asked.now c.world-asked.ensures.acyclic c.args.b c.world-asked.result.now c.requires.asked c.world-asked.ensures.entry c.world-asked.ensures.own in
-    (omega (arith, c.decreases), (r, (s, (apart_turned c.args.sides.given.now c.args.sides.asked.now c.requires.apart, true_turned c.args.sides.given.now c.args.sides.asked.now c.args.cache.now.keys c.requires.cache))))
+    (omega (arith, c.decreases), (r, (s, apart_turned c.args.sides.given.now c.args.sides.asked.now c.requires.apart)))
 
 pub worlds_fit-returns-in_err-items_fit-clause-no : goal.worlds_fit-returns-in_err-items_fit-clause-no
 worlds_fit-returns-in_err-items_fit-clause-no t c =
@@ -200,10 +207,10 @@ pub worlds_fit-items_fit-requires-2 : goal.worlds_fit-items_fit-requires-2
 worlds_fit-items_fit-requires-2 t c =
     let s = world_exports_inside c.args.sides.given.now c.world-given.ensures.acyclic c.args.a c.world-given.result.now c.requires.given c.world-given.ensures.entry c.world-given.ensures.own in
     let r = world_exports_inside c.args.sides.asked.now c.world-asked.ensures.acyclic c.args.b c.world-asked.result.now c.requires.asked c.world-asked.ensures.entry c.world-asked.ensures.own in
-    (omega (arith, c.decreases), (s, (r, (c.requires.apart, true_turned c.args.sides.asked.now c.args.sides.given.now c.items_fit.new.cache.keys c.items_fit.ensures.cache))))
+    (omega (arith, c.decreases), (s, (r, c.requires.apart)))
 
 pub worlds_fit-returns-clause-yes : goal.worlds_fit-returns-clause-yes
-worlds_fit-returns-clause-yes t c = on_ok c.items_fit-2.result _ _ c.items_fit-2.ensures.yes (component_gives c.args.sides.given.now c.args.sides.asked.now c.world-given.ensures.acyclic c.world-asked.ensures.acyclic c.args.a c.args.b c.world-given.result.now c.world-asked.result.now c.world-given.ensures.entry c.world-given.ensures.own c.world-asked.ensures.entry c.world-asked.ensures.own c.in_ok-items_fit.ensures.yes)
+worlds_fit-returns-clause-yes t c = on_ok c.items_fit-2.result _ _ c.items_fit-2.ensures.yes (λ h was. component_gives c.args.sides.given.now c.args.sides.asked.now c.world-given.ensures.acyclic c.world-asked.ensures.acyclic c.args.a c.args.b c.world-given.result.now c.world-asked.result.now c.world-given.ensures.entry c.world-given.ensures.own c.world-asked.ensures.entry c.world-asked.ensures.own (c.in_ok-items_fit.ensures.yes (true_turned c.args.sides.given.now c.args.sides.asked.now c.args.cache.now.keys was)) (h (true_turned c.args.sides.asked.now c.args.sides.given.now c.items_fit.new.cache.keys (c.items_fit.ensures.cache (true_turned c.args.sides.given.now c.args.sides.asked.now c.args.cache.now.keys was)))))
 
 pub worlds_fit-returns-clause-no : goal.worlds_fit-returns-clause-no
 worlds_fit-returns-clause-no t c ss e = exports_miss c.args.sides.given.now c.args.sides.asked.now c.world-given.ensures.acyclic c.world-asked.ensures.acyclic c.args.a c.args.b c.world-given.result.now c.world-asked.result.now c.world-given.ensures.entry c.world-given.ensures.own c.world-asked.ensures.entry c.world-asked.ensures.own ss (c.items_fit-2.ensures.no ss e)

@@ -25,10 +25,10 @@ decreases-items_fit l = 8 * (size_of l.sides.given.now l.given.of + size_of l.si
 abbrev pub decreases-item_fits : goal.decreases-item_fits
 decreases-item_fits l = 8 * (size_of l.sides.given.now l.given.of + size_of l.sides.asked.now l.asked.kind)
 
--- the items so far are given, and the cache is true
+-- where the cache was true, the items so far are given, and the cache is true
 abbrev pub invariant-items_fit-loop-index : goal.invariant-items_fit-loop-index
-invariant-items_fit-loop-index l = record {
-  each : GivesAll l.sides.given.now l.given.items.now l.sides.asked.now (take l.index l.asked.items.now);
-  only : OnlyTrue l.sides.given.now l.sides.asked.now l.fn.cache.keys l.cache.keys;
-  cache : IsTrueOf l.sides.given.now l.sides.asked.now l.cache.keys;
-}
+invariant-items_fit-loop-index l =
+    IsTrueOf l.sides.given.now l.sides.asked.now l.fn.cache.keys
+    → GivesAll l.sides.given.now l.given.items.now l.sides.asked.now (take l.index l.asked.items.now)
+    × OnlyTrue l.sides.given.now l.sides.asked.now l.fn.cache.keys l.cache.keys
+    × IsTrueOf l.sides.given.now l.sides.asked.now l.cache.keys

@@ -18,7 +18,7 @@ same_places-same_place-requires t c =
     (place_inside at c.see_acyclic.ensures c.args.a c.requires.given c.requires.given_values c.loop-given.index c.in-Some.given (sym c.in-Some.ensures.place)) in
     let r = subst (λ v. StandsIf bt v × (place_size bt v < size_of bt c.args.b)) (sym c.value_of-in-Some-place.ensures)
     (place_inside bt c.see_acyclic-2.ensures c.args.b c.requires.asked c.requires.asked_values c.loop-given.index c.in-Some-place.asked (sym c.in-Some-place.ensures.place)) in
-    (omega (arith, s.1, r.1, c.decreases), (s.0, r.0))
+    (omega (arith, s.1, r.1, c.decreases), (s.0, (r.0, c.requires.apart)))
 
 pub same_places-returns-then-not-same_place : goal.same_places-returns-then-not-same_place
 same_places-returns-then-not-same_place t c =
@@ -69,7 +69,10 @@ same_resolved-same_places-requires t c =
           subst (λ v. Stands bt (ItemKind.Value v)) c.in-Defined-b.is c.requires.asked,
           (
             defined_holds at (ValueType.Defined c.in-Defined.d) c.in-Defined.d c.defined_type-given.result.now refl c.defined_type-given.ensures.entry c.defined_type-given.ensures.own,
-            defined_holds bt (ValueType.Defined c.in-Defined-b.e) c.in-Defined-b.e c.defined_type-asked.result.now refl c.defined_type-asked.ensures.entry c.defined_type-asked.ensures.own,
+            (
+              defined_holds bt (ValueType.Defined c.in-Defined-b.e) c.in-Defined-b.e c.defined_type-asked.result.now refl c.defined_type-asked.ensures.entry c.defined_type-asked.ensures.own,
+              c.requires.apart,
+            ),
           ),
         ),
       ),
@@ -117,7 +120,7 @@ same_values-same_resolved-requires t c =
           c.resolve_value_type-2.ensures.stands,
           (
             end_no_alias at c.see_acyclic.ensures c.resolve_value_type.ensures.resolved,
-            end_no_alias bt c.see_acyclic-2.ensures c.resolve_value_type-2.ensures.resolved,
+            (end_no_alias bt c.see_acyclic-2.ensures c.resolve_value_type-2.ensures.resolved, c.requires.apart),
           ),
         ),
       ),

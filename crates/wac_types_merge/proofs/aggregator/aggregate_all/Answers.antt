@@ -27,7 +27,7 @@ returns-in_err-all-clause-refused c =
     let x = c.loop-name-item.result in
     let p = err_from_is_err_and c.from_residual.result c.from_residual.ensures.1 in
     rw (p.1, p.2)
-    (list_refused c.args.number xs i x c.loop-name.all c.in_err-all.field-0.0 (get-place xs i x c.loop-name-test.true c.loop-name-item.is) c.loop-name.invariant.asked c.loop-name.invariant.merged c.in_err-all.ensures.refused)
+    (list_refused c.args.number xs i x c.loop-name.all c.in_err-all.field-0.0 (get-place xs i x c.loop-name-test.true c.loop-name-item.is) c.loop-name.invariant.asked c.loop-name.invariant.merged c.in_err-all.ensures.refused c.in_err-all.ensures.frames)
 
 pub loop-name-preserved : goal.loop-name-preserved
 loop-name-preserved c =

@@ -3,11 +3,11 @@ use Rattle.std.proofs.lemmas.Result.{err_from_is_err_and}
 use Rattle.wac_types_base.specs.declared.item.«Type».{«Type» as TypeKind}
 use Rattle.wac_types_base.specs.declared.item.ItemKind.{ItemKind}
 use Rattle.wac_types_base.specs.Collection.{Stands}
-use Rattle.wac_types_fit.proofs.Checks.{interface_type_is, interface_type_stands, interface_type_size}
-use Rattle.wac_types_merge.proofs.Clashing.{instance_apart, type_apart, other_apart, other_type_apart, interface_type_apart, instances_clash, typed_clash, clash_at}
+use Rattle.wac_types_fit.proofs.Checks.{types_disagree_as, interface_type_is, interface_type_stands, interface_type_size}
+use Rattle.wac_types_merge.proofs.Clashing.{instance_apart, type_apart, other_apart, other_type_apart, interface_type_apart, instances_clash, typed_clash, clash_at, leads_at}
 use Rattle.wac_types_base.proofs.Adding.{Grows-refl, Grows-trans}
-use Rattle.wac_types_merge.specs.Interfaces.{SlotInside, JoinedIn, OtherClash, AreJoined}
-use Rattle.wac_types_fit.proofs.Items.{exports_inside, among-value_at}
+use Rattle.wac_types_merge.specs.Interfaces.{SlotInside, JoinedIn, OtherClash, AreJoined, OtherLeads}
+use Rattle.wac_types_fit.proofs.Items.{exports_inside, among-value_at, instance_misses}
 use Rattle.wac_types_merge.proofs.Grown.{inside_kept, size_kept}
 use Rattle.wac_types_merge.proofs.Joining.{names_joined, joined_stand, joined_before, joined_more, joined_new, found_inside_slot, slot_inside_kept, slot_stands}
 use Rattle.wac_types_merge.proofs.Placed.{at_stands, typed_meet, instances_meet, uses_stand, exports_stand, uses_kept, exports_kept}
@@ -255,3 +255,41 @@ merge_copies-returns-in-Ok-clause-united t c = record {
   united = united_kept c.args.own.now c.args.second.now.exports c.merge_items.new.own c.add_joined.new.own c.args.first.now.exports c.in_ok-both.both c.add_joined.ensures.grows
       (joined_stand c.args.own.now c.args.second.now.exports c.merge_items.new.own c.args.first.now.exports c.in_ok-both.both c.in_ok-both.ensures.joined) c.in_ok-both.ensures.united;
 }
+
+-- ---- where the steps of a mismatch lead
+
+pub merge_types-returns-in_err-id-in-Interface-b-clause-frames : goal.merge_types-returns-in_err-id-in-Interface-b-clause-frames
+merge_types-returns-in_err-id-in-Interface-b-clause-frames t c =
+    let p = err_from_is_err_and c.from_residual.result c.from_residual.ensures.1 in
+    rw (p.1, p.2)
+    (λ ss e. types_disagree_as c.args.own.now c.args.own.now (ItemKind.Ty c.args.a) (ItemKind.Ty c.args.b) (ItemKind.Instance c.in-Interface.i) (ItemKind.Instance c.in-Interface-b.j)
+    (interface_type_is c.args.own.now c.see_acyclic.ensures c.args.a c.in-Interface.i c.in-Interface.is c.requires.kept) (interface_type_is c.args.own.now c.see_acyclic.ensures c.args.b c.in-Interface-b.j c.in-Interface-b.is c.requires.asked) ss (c.in_err-id-in-Interface-b.ensures.frames ss e))
+
+pub merge_copies-returns-in_err-both-clause-frames : goal.merge_copies-returns-in_err-both-clause-frames
+merge_copies-returns-in_err-both-clause-frames t c =
+    let p = err_from_is_err_and c.from_residual.result c.from_residual.ensures.1 in
+    rw (p.1, p.2)
+    (λ ss e. instance_misses c.args.own.now c.args.own.now c.see_acyclic.ensures c.see_acyclic.ensures c.args.a c.args.b c.args.first.now c.args.second.now c.requires.kept.at c.requires.kept.own c.requires.asked.at c.requires.asked.own ss (c.in_err-both.ensures.frames ss e))
+
+pub merge_item-returns-in-Err-clause-frames : goal.merge_item-returns-in-Err-clause-frames
+merge_item-returns-in-Err-clause-frames t c ss e =
+    let w = c.within.ensures.steps ss e in
+    subst (λ o. OtherLeads c.args.own.now c.args.name.now c.args.kind o ss) (sym c.in-Some.is) (w.0, w.2, c.in-Err.ensures.frames w.0 w.1)
+
+pub merge_items-returns-in_err-item-clause-frames : goal.merge_items-returns-in_err-item-clause-frames
+merge_items-returns-in_err-item-clause-frames t c =
+    let p = err_from_is_err_and c.from_residual.result c.from_residual.ensures.1 in
+    let n = c.entry.result.0.now in
+    let k = c.entry.result.1.now in
+    let own = c.args.own.now in
+    let m = among-get c.args.kept.now c.loop-index.index (n, k) c.entry.ensures in
+    let o = c.copied-other.result in
+    let is = c.copied-other.ensures ∙ c.get.ensures in
+    rw (p.1, p.2)
+    (λ ss e. leads_at own c.loop-index.own c.args.kept.now c.args.asked.now n k o c.loop-index.invariant.grows (among-value_at c.args.kept.now n k c.len-index-end.ensures.distinct m) is (c.requires.kept n k m).0
+    (slot_stands own o c.args.instances.asked (found_inside_slot own c.args.instances.asked c.args.asked.now c.requires.asked n o (sym is))) ss (c.in_err-item.ensures.frames ss e))
+
+pub merge_items-returns-in_err-push_item-clause-frames : goal.merge_items-returns-in_err-push_item-clause-frames
+merge_items-returns-in_err-push_item-clause-frames t c =
+    let p = err_from_is_err_and c.from_residual-in_err-push_item.result c.from_residual-in_err-push_item.ensures.1 in
+    rw (p.1, p.2) (λ ss e. absurd (c.in_err-push_item.ensures.clash ss e))

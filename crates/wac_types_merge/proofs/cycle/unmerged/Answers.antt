@@ -14,3 +14,8 @@ pub returns-in_err-fits_in-clause-clash : goal.returns-in_err-fits_in-clause-cla
 returns-in_err-fits_in-clause-clash c =
     let p = err_from_is_err_and c.from_residual.result c.from_residual.ensures.1 in
     rw (p.1, p.2) (λ ss e. c.requires.apart (c.in_err-fits_in.ensures.no ss e))
+
+pub returns-in_err-fits_in-clause-frames : goal.returns-in_err-fits_in-clause-frames
+returns-in_err-fits_in-clause-frames c =
+    let p = err_from_is_err_and c.from_residual.result c.from_residual.ensures.1 in
+    rw (p.1, p.2) c.in_err-fits_in.ensures.frames

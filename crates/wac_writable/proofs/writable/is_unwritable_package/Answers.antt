@@ -1,9 +1,8 @@
 use Rattle.std.proofs.Common.{sym, ◌∙◌}
-use Rattle.std.specs.Bool.{Decides}
 use Rattle.std.proofs.lemmas.Bool.Decides.{Decides-at, not_from_Decides}
 use Rattle.std.proofs.lemmas.Result.{IfOk-weaker}
 use Rattle.wac_types_base.specs.declared.item.ItemKind.{ItemKind}
-use Rattle.wac_types_base.specs.Stated.{IsComponent, kind_of, stated_world}
+use Rattle.wac_types_base.specs.Stated.{stated_world}
 use Rattle.wac_types_base.proofs.Lists.{always}
 use Rattle.wac_composition.specs.NotWritten.{unnamed_in_package}
 use Rattle.wac_types_base.proofs.Telling.{kind_stated}

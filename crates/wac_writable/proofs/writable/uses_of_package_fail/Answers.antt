@@ -1,12 +1,12 @@
-use Rattle.std.proofs.Common.{[], arith, sym, subst}
+use Rattle.std.proofs.Common.{[], arith, subst}
 use Rattle.std.specs.Bool.{Decides}
 use Rattle.std.proofs.lemmas.Bool.Decides.{not_from_Decides}
 use Rattle.std.proofs.lemmas.Result.{IfOk-weaker}
 use Rattle.wac_types_base.specs.declared.item.ItemKind.{ItemKind}
 use Rattle.wac_types_base.specs.Collection.{size_of}
-use Rattle.wac_types_base.specs.Stated.{uses_of, imports_of, exports_of, stated_world}
+use Rattle.wac_types_base.specs.Stated.{uses_of, imports_of, stated_world}
 use Rattle.wac_types_base.proofs.Lists.{always}
-use Rattle.wac_writable.specs.Uses.{SomeUse, SomeItem, SomeNeeded}
+use Rattle.wac_writable.specs.Uses.{SomeItem, SomeNeeded}
 use Rattle.wac_writable.specs.Givers.{givers_by}
 use Rattle.wac_writable.proofs.UseLaws.{use_needed, world_needed}
 use Rattle.wac_writable.proofs.GiverLaws.{tells_after, knows_none}

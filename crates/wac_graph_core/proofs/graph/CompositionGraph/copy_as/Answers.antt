@@ -2,7 +2,7 @@ use Rattle.std.proofs.Common.{length, map, ap, sym, subst, ◌∙◌}
 use Rattle.wac_graph_core.specs.Graph.{Graph}
 use Rattle.wac_graph_core.specs.Defining.{ReachBelow}
 use Rattle.wac_graph_core.specs.View.{graph}
-use Rattle.wac_graph_core.specs.Copying.{place_under, IsGraphUnder}
+use Rattle.wac_graph_core.specs.Copying.{place_under, IsGraphUnder, AreCopied}
 use Rattle.wac_graph_core.proofs.Below.{ReachBelow-all}
 use Rattle.wac_graph_core.proofs.Copied.{IsGraph-under}
 use Rattle.wac_graph_core.proofs.DefineSteps.{items_stand}
@@ -36,6 +36,9 @@ invariant_of-result c =
           (ReachBelow-all c.in_ok-types.types c.see_acyclic-2.ensures c.in_ok-nodes.nodes (items_stand (copied c) made)),
     )
 
-pub returns : goal.returns
+pub returns-clause-copied : goal.returns-clause-copied
+returns-clause-copied c = subst (λ (g : Graph). AreCopied c.args.number g.types c.in_ok-types.types) c.self.view_is c.in_ok-types.ensures.copied
+
+pub returns-clause-under : goal.returns-clause-under
 unfolding copied
-returns c = subst (λ g. IsGraphUnder c.args.number g (copied c)) c.self.view_is (is_under c)
+returns-clause-under c = subst (λ g. IsGraphUnder c.args.number g (copied c)) c.self.view_is (is_under c)

@@ -1,8 +1,12 @@
-use Rattle.std.proofs.Common.{sym, subst}
-use Rattle.wac_graph_core.specs.Named.{HasNames}
+use Rattle.std.proofs.Common.{ap, ◌∙◌}
+use Rattle.std.specs.Prelude.{string_bytes}
+use Rattle.wac_types_base.specs.Entries.{entries_of, put_entry}
+use Rattle.wac_types_base.proofs.Looked.{inserted, put_entry-new}
+use Rattle.wac_graph_core.specs.Named.{Named}
 use Rattle.wac_graph_core.proofs.named.NamedNodes.push_reserved.Goals as goal
 
-pub invariant_of-self : goal.invariant_of-self
-invariant_of-self c =
-    subst (HasNames c.with_name.result) (sym c.push_reserved.ensures.items)
-    (c.with_name.ensures c.self.inside.list.items c.args.named.1 (subst (λ o. HasNames o c.self.inside.list.items) (sym c.take-names.ensures.value) c.self.invariant))
+pub returns : goal.returns
+returns c =
+    let n = string_bytes c.args.name in
+    ap entries_of c.in-Ok.ensures.entries ∙ inserted c.self.inside.map.entries c.args.name c.args.node ∙ ap (λ (v : Named). put_entry v.items n c.args.node) c.self.view_is
+    ∙ put_entry-new c.args.self.now.items n c.args.node c.requires.new

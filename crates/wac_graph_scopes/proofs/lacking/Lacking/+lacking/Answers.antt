@@ -1,12 +1,11 @@
-use Rattle.std.proofs.Common.{ℕ, ◌<◌, Some, false, refl, sym, ap, subst, ◌∙◌, arith}
+use Rattle.std.proofs.Common.{◌<◌, Some, refl, sym, ap, subst, ◌∙◌, arith}
 use Rattle.wac_types_base.specs.declared.item.ItemKind.{ItemKind}
 use Rattle.wac_types_base.specs.declared.item.ValueType.{ValueType}
 use Rattle.wac_types_base.specs.Collection.{Stands, size_of, slots_of, StandsIf}
 use Rattle.wac_types_base.proofs.Slots.{stands_own, stands_borrow}
 use Rattle.wac_types_base.proofs.Walking.{some_place}
 use Rattle.wac_types_fit.proofs.ValueTrees.{place_size, place_inside, defined_holds}
-use Rattle.wac_graph_scopes.specs.Refusals.{NoneDangles}
-use Rattle.wac_graph_scopes.proofs.LackingLaws.{primitive_whole, own_whole, borrow_whole, defined_whole, whole_next, whole_all}
+use Rattle.wac_graph_scopes.proofs.LackingLaws.{primitive_whole, own_whole, borrow_whole, whole_next, whole_all}
 use Rattle.wac_graph_scopes.proofs.lacking.Lacking.+lacking.Goals as goal
 
 -- ---- of a value type

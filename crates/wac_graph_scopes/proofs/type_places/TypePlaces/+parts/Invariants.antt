@@ -1,4 +1,4 @@
-use Rattle.std.proofs.Common.{◌≡◌, ◌+◌, ◌-◌, ◌*◌, length}
+use Rattle.std.proofs.Common.{◌+◌, ◌-◌, ◌*◌, length}
 use Rattle.wac_types_base.specs.Collection.{size_of, slots_of}
 use Rattle.wac_graph_scopes.proofs.type_places.TypePlaces.+parts.Given as goal
 

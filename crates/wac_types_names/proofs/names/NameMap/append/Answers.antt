@@ -1,7 +1,6 @@
 use Rattle.std.proofs.Common.{◌≡◌, ◌++◌, ◌∷◌, [], sym, ap, subst, ◌∙◌, None}
 use Rattle.std.specs.Map.{lookup}
-use Rattle.wac_types_base.specs.Entries.{IsNew}
-use Rattle.wac_types_names.specs.NameMaps.{by_name, by_key}
+use Rattle.wac_types_names.specs.NameMaps.{by_key}
 use Rattle.wac_types_names.specs.Spellings.{entries_with, IsKept}
 use Rattle.wac_types_names.proofs.Maps.{by_key-entries_with, kept-append, entries_with-append, insert_entry-new}
 use Rattle.wac_types_names.proofs.names.NameMap.append.Goals as goal
@@ -11,9 +10,8 @@ invariant_of-self-in-Ok g c =
     let ss = c.self.inside.names.items in
     let es = c.self.inside.definitions.entries in
     let eq = g.K.PartialEq.eq in
-    let off : lookup (eq c.args.key) es ≡ None = ap (lookup (eq c.args.key)) (sym (by_key-entries_with ss es c.self.invariant.lengths) ∙ ap by_key c.self.view_is) ∙ c.requires.new_key in
-    let fresh : IsNew c.in_ok-read.field-0.name (by_name (entries_with ss es)) = subst (λ n. IsNew n (by_name (entries_with ss es))) (sym c.in_ok-read.ensures.name) (subst (λ m. IsNew c.args.name.now (by_name m)) (sym c.self.view_is) c.requires.new_name) in
-    let more : IsKept (ss ++ c.in_ok-read.field-0 ∷ []) (es ++ (c.args.key, c.args.item) ∷ []) = kept-append ss es c.in_ok-read.field-0 (c.args.key, c.args.item) c.self.invariant c.in_ok-read.ensures.read fresh in
+    let off : lookup (eq c.args.key) es ≡ None = ap (lookup (eq c.args.key)) (sym (by_key-entries_with ss es c.self.invariant.lengths) ∙ ap by_key c.self.view_is) ∙ c.requires in
+    let more : IsKept (ss ++ c.in_ok-read.field-0 ∷ []) (es ++ (c.args.key, c.args.item) ∷ []) = kept-append ss es c.in_ok-read.field-0 (c.args.key, c.args.item) c.self.invariant c.in_ok-read.ensures.read in
     subst (λ t. IsKept t c.insert.new.self.entries) (sym c.in_ok-push.ensures.items)
     (subst (IsKept (ss ++ c.in_ok-read.field-0 ∷ [])) (sym (c.in-Ok.ensures.entries ∙ insert_entry-new eq c.args.key c.args.item es off)) more)
 
@@ -23,7 +21,7 @@ returns-in-Ok-clause-ok g c =
     let es = c.self.inside.definitions.entries in
     let eq = g.K.PartialEq.eq in
     let s = c.in_ok-read.field-0 in
-    let off : lookup (eq c.args.key) es ≡ None = ap (lookup (eq c.args.key)) (sym (by_key-entries_with ss es c.self.invariant.lengths) ∙ ap by_key c.self.view_is) ∙ c.requires.new_key in
+    let off : lookup (eq c.args.key) es ≡ None = ap (lookup (eq c.args.key)) (sym (by_key-entries_with ss es c.self.invariant.lengths) ∙ ap by_key c.self.view_is) ∙ c.requires in
     let added = c.in-Ok.ensures.entries ∙ insert_entry-new eq c.args.key c.args.item es off in
     ap (λ t. entries_with t c.insert.new.self.entries) c.in_ok-push.ensures.items ∙ ap (entries_with (ss ++ s ∷ [])) added ∙ entries_with-append ss es s (c.args.key, c.args.item) c.self.invariant.lengths
     ∙ ap (λ m. m ++ (s.name, c.args.key, c.args.item) ∷ []) c.self.view_is ∙ ap (λ n. c.args.self.now ++ (n, c.args.key, c.args.item) ∷ []) c.in_ok-read.ensures.name
