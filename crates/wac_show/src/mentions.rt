@@ -5,7 +5,7 @@ use wac_types_base::replace::is_same;
 use wac_types_base::{DefinedType, ItemKind, ResourceId, Type, Types, ValueType};
 
 /// How many parts of an item are looked at.
-const MAX_PARTS: u128 = 10_000;
+const MAX_PARTS: usize = 10_000;
 
 /// The resource at the end of the aliases.
 fn named_resource(types: &Types, id: ResourceId) -> Option<ItemKind> {
@@ -47,8 +47,9 @@ fn push_parts(types: &Types, kind: ItemKind, parts: &mut Vec<ItemKind>) -> Resul
     if !types.has(kind) {
         return Ok(());
     }
-    for at in types.skipped(kind)..MAX_PARTS {
-        match types.place(kind, at) {
+    let first = types.skipped(kind);
+    for at in 0..MAX_PARTS {
+        match types.place(kind, first.saturating_add(at as u128)) {
             None => break,
             Some(None) => (),
             Some(Some(part)) => parts.push(part)?,

@@ -220,6 +220,14 @@ fn warn_of_imported(
     Ok(())
 }
 
+/// The name under which a node is imported.
+fn import_name(graph: &CompositionGraph, node: NodeId) -> Option<&str> {
+    if !graph.contains_node(node) {
+        return None;
+    }
+    graph.get_import_name(node)
+}
+
 /// Warns of imports.
 fn warn_of_imports(
     graph: &CompositionGraph,
@@ -229,7 +237,7 @@ fn warn_of_imports(
     let imported = imported_types(graph, alloc)?;
     for node in graph.node_ids() {
         if let Some(func) = func_of(graph, node) {
-            if let Some(import) = graph.get_import_name(node) {
+            if let Some(import) = import_name(graph, node) {
                 warn_of_imported(graph, alloc, &imported, import, func, text)?;
             }
         }
