@@ -144,36 +144,36 @@ abbrev pub AskNothing : State → Type 0
 AskNothing g = (e : Name × Stated) → Among e g.definitions → UsesNothing e.1
 
 -- the same definitions
-abbrev same : State → State → Type 0
-same g h = h.definitions ≡ g.definitions
+abbrev pub SameDefinitions : State → State → Type 0
+SameDefinitions g h = h.definitions ≡ g.definitions
 
-again : (g h : State) → same g h → AskNothing g → AskNothing h
+again : (g h : State) → SameDefinitions g h → AskNothing g → AskNothing h
 again g h e a x m = a x (subst (Among x) e m)
 
-bound_same : (g : State) (i : t.Ident) (d : Denoted) (h : State) → Ok h ≡ bound g i d → same g h
+bound_same : (g : State) (i : t.Ident) (d : Denoted) (h : State) → Ok h ≡ bound g i d → SameDefinitions g h
 bound_same g i d h e =
     ap (λ (k : State). k.definitions) (ok_is h (record g { root = g.root ++ (i.string, record { denoted = d; span = i.span }) ∷ [] }) (then_ok (bind (root_scope g) i d.item) _ h e))
 
-exported_same : (d : Denoted) (b : Bool) (g : State) (n : t.Ident) (h : State) → Ok h ≡ exported d b g n → same g h
+exported_same : (d : Denoted) (b : Bool) (g : State) (n : t.Ident) (h : State) → Ok h ≡ exported d b g n → SameDefinitions g h
 exported_same d b g n h e =
     let x = then_ok (no_definition n b (value_at g.root n.string)) _ h e in
     let y = then_ok (new_export g n b (value_at g.exports n.string)) _ h x in
     let z = then_ok (unless_clear (not (is_exportable n.string)) (InvalidExternName n.string ExternKind.Export) n.span) _ h y in
     ap (λ (k : State). k.definitions) (ok_is h (record (speak_of g d) { exports = g.exports ++ (n.string, record { denoted = d; span = n.span }) ∷ [] }) z) ∙ (alike_speak g d).definitions
 
-one_same : (dots : Span) (d : Denoted) (g k l : State) (n : Name) → same g k → export_one dots d k n ≡ Ok l → same g l
+one_same : (dots : Span) (d : Denoted) (g k l : State) (n : Name) → SameDefinitions g k → export_one dots d k n ≡ Ok l → SameDefinitions g l
 one_same dots d g k l n h e = let a = ok_of (export_named d n dots) _ l (sym e) in exported_same a.0 false k (record { string = n; span = dots }) l a.2 ∙ h
 
-left_same : (g : State) (s dots : Span) (d : Denoted) (ns : List Name) (h : State) → Ok h ≡ export_left g s dots d ns → same g h
+left_same : (g : State) (s dots : Span) (d : Denoted) (ns : List Name) (h : State) → Ok h ≡ export_left g s dots d ns → SameDefinitions g h
 left_same g s dots d [] h e = absurd (err_ok _ h e)
-left_same g s dots d (n ∷ ns) h e = each_keeps (export_one dots d) (same g) (λ k l x m q. one_same dots d g k l x m q) g h (n ∷ ns) refl e
+left_same g s dots d (n ∷ ns) h e = each_keeps (export_one dots d) (SameDefinitions g) (λ k l x m q. one_same dots d g k l x m q) g h (n ∷ ns) refl e
 
-export_same : (g : State) (s : Span) (d : Denoted) (o : t.ExportOptions) (h : State) → Ok h ≡ export_as g s d o → same g h
+export_same : (g : State) (s : Span) (d : Denoted) (o : t.ExportOptions) (h : State) → Ok h ≡ export_as g s d o → SameDefinitions g h
 export_same g s d (t.ExportOptions.rename n) h e = exported_same d false g (written_name n) h e
 export_same g s d t.ExportOptions.none h e = let a = ok_of (present (export_name d) ExportRequiresAs s) _ h e in exported_same d true g (record { string = a.0; span = s }) h a.2
 export_same g s d (t.ExportOptions.spread dots) h e = left_same g s dots d _ h (then_ok (needs_instance d InstanceOperation.Spread s) _ h e)
 
-import_same : (g : State) (x : t.ImportStatement) (h : State) → Ok h ≡ import_statement g x → same g h
+pub import_same : (g : State) (x : t.ImportStatement) (h : State) → Ok h ≡ import_statement g x → SameDefinitions g h
 import_same g x h e =
     let n = ok_of (import_name g x) _ h e in
     let item = ok_of (asked g x.ty) _ h n.2 in
@@ -182,21 +182,33 @@ import_same g x h e =
     let one : Import = record { name = n.0.string; item = promote item.0; span = n.0.span; id_span = x.id.span } in
     bound_same (with_import g one) x.id (record { origin = imported n.0.string; item = promote item.0 }) h z
 
-declaration_alone : (g : State) (i : t.Ident) (x : Stated) (h : State) → AskNothing g → UsesNothing x → Ok h ≡ declaration g i x → AskNothing h
-declaration_alone g i x h a u e =
+-- a declaration defines its type behind the others
+pub declaration_adds : (g : State) (i : t.Ident) (x : Stated) (h : State) → Ok h ≡ declaration g i x → h.definitions ≡ g.definitions ++ (i.string, x) ∷ []
+declaration_adds g i x h e =
     let y = then_ok (unless_clear (not (is_extern_name i.string)) (InvalidExternName i.string ExternKind.Export) i.span) _ h e in
     let z = then_ok (not_exported g (value_at g.exports i.string) i) _ h y in
-    again (with_definition g i x) h (bound_same (with_definition g i x) i (record { origin = defined i.string x; item = x }) h z)
+    bound_same (with_definition g i x) i (record { origin = defined i.string x; item = x }) h z
+
+declaration_alone : (g : State) (i : t.Ident) (x : Stated) (h : State) → AskNothing g → UsesNothing x → Ok h ≡ declaration g i x → AskNothing h
+declaration_alone g i x h a u e =
+    again (with_definition g i x) h (declaration_adds g i x h e)
     (each_more (λ (d : Name × Stated). UsesNothing d.1) g.definitions (i.string, x) a u)
+
+pub let_same : (g : State) (x : t.LetStatement) (h : State) → Ok h ≡ statement g (t.Statement.let_ x) → SameDefinitions g h
+let_same g x h e =
+    let r = ok_of (denote g x.expr) _ h e in bound_same r.0.0 x.id r.0.1 h r.2 ∙ (alike_denote g x.expr r.0 r.1).definitions
+
+pub exporting_same : (g : State) (x : t.ExportStatement) (h : State) → Ok h ≡ statement g (t.Statement.export x) → SameDefinitions g h
+exporting_same g x h e =
+    let r = ok_of (denote g x.expr) _ h e in
+    export_same r.0.0 (expr_span x.expr) r.0.1 x.options h r.2 ∙ (alike_denote g x.expr r.0 r.1).definitions
 
 statement_alone : (g h : State) (x : t.Statement) → AskNothing g → statement g x ≡ Ok h → AskNothing h
 statement_alone g h (t.Statement.import x) a e = again g h (import_same g x h (sym e)) a
 statement_alone g h (t.Statement.ty x) a e =
     let y = ok_of (type_statement (context g) x) _ h (sym e) in declaration_alone g (declared_id x) y.0 h a (type_alone (context g) x y.0 (sym y.1)) y.2
-statement_alone g h (t.Statement.let_ x) a e =
-    let r = ok_of (denote g x.expr) _ h (sym e) in again g h (bound_same r.0.0 x.id r.0.1 h r.2 ∙ (alike_denote g x.expr r.0 r.1).definitions) a
-statement_alone g h (t.Statement.export x) a e =
-    let r = ok_of (denote g x.expr) _ h (sym e) in again g h (export_same r.0.0 (expr_span x.expr) r.0.1 x.options h r.2 ∙ (alike_denote g x.expr r.0 r.1).definitions) a
+statement_alone g h (t.Statement.let_ x) a e = again g h (let_same g x h (sym e)) a
+statement_alone g h (t.Statement.export x) a e = again g h (exporting_same g x h (sym e)) a
 
 pub definitions_alone : Definitions_ask_nothing
 definitions_alone d ps r e =

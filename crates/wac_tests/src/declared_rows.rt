@@ -17,7 +17,7 @@ fn declared_in<'s, D: ParseDocument<'s> + ResolveDocument + DeclareDocument>(
     let document = D::parse(alloc, source)?;
     let none: Packages<'_> = Packages::new(alloc);
     let resolution = document.resolve(alloc, &none, 1)?;
-    match declared_world(&resolution, alloc, name, 2) {
+    match declared_world(alloc, &resolution, name, 2) {
         Ok((types, _world)) => {
             if types.number() == 2 {
                 Ok(None)

@@ -1,3 +1,4 @@
 pub mod Counted
 pub mod Planned
 pub mod Written
+pub mod Defined

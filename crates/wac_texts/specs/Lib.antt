@@ -3,3 +3,4 @@ pub mod Places
 pub mod Declarations
 pub mod Worlds
 pub mod Plugs
+pub mod Laws

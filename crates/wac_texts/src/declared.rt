@@ -188,8 +188,8 @@ fn copied_world(
 /// The world that a document declares under a name, copied into a collection of this number, which is not that of the
 /// document's graph.
 pub fn declared_world<'d, D: DeclareDocument>(
-    resolution: &Resolved<'d, D>,
     alloc: Global,
+    resolution: &Resolved<'d, D>,
     name: &str,
     number: u64,
 ) -> Result<(Types, WorldId), DeclaredWorldError>

@@ -21,7 +21,7 @@ fn declared<D: ResolveDocument + DeclareDocument>(
     let none: Packages<'_> = Packages::new(told.alloc());
     match document.resolve(told.alloc(), &none, 0) {
         Ok(resolution) => {
-            let world = declared_world(&resolution, told.alloc(), "w", u64::MAX);
+            let world = declared_world(told.alloc(), &resolution, "w", u64::MAX);
             told.given(world)
         }
         Err(fault) => {
