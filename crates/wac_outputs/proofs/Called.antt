@@ -5,14 +5,16 @@ use Rattle.std.proofs.Common.{refl, sym, ap, subst, ◌∙◌, inl, inr}
 use Rattle.std.proofs.lemmas.Option.{none-some, same_Some}
 use Rattle.wac_types_base.specs.declared.item.ItemKind.{ItemKind}
 use Rattle.wac_types_base.specs.Graph.{Among}
-use Rattle.wac_types_base.specs.Stated.{Stated, exports_of, uses_of}
+use Rattle.wac_types_base.specs.Stated.{Stated, exports_of, imports_of, stated_of, uses_of}
 use Rattle.wac_types_base.specs.Tree.{instance}
 use Rattle.wac_types_base.proofs.Walking.{slice_get-Among}
 use Rattle.wac_types_base.proofs.Looked.{among-get}
 use Rattle.wac_types_names.specs.Keys.{Key}
+use Rattle.wac_types_fit.specs.Ordered.{AllInOrder}
 use Rattle.wac_graph_bytes.specs.Typing.{Worlds}
 use Rattle.wac_graph_bytes.specs.Wirings.{Instantiation, OfBytes, Same, Wiring}
 use Rattle.wac_nesting.specs.Given.{IsBound, IsTrueWorld, World}
+use Rattle.wac_nesting.specs.Laws.{AreInOrder}
 use Rattle.wac_nesting.specs.Steps as n
 use Rattle.wac_nesting.specs.Steps.{Add, AreSteps, AreTrue, Ascribed, Compose, Composes, IsHanded, IsKnown, IsLeaf, IsOfPackage, IsStep, MeansSame, Other, Package, Step, after, after_all}
 use Rattle.wac_composition.specs.Composition.{Composition, Made}
@@ -20,7 +22,7 @@ use Rattle.wac_composition.specs.OuterLaws.{AreMet}
 use Rattle.wac_composition.specs.Sound.{IsMade, IsWired, maps_of}
 use Rattle.wac_composition.specs.Wired.{composed_wiring, instantiation}
 use Rattle.wac_composition.specs.Worlds.{composed_world}
-use Rattle.wac_composition.proofs.KeptFits.{made_tree}
+use Rattle.wac_composition.proofs.KeptFits.{fields_ordered, made_tree}
 use Rattle.wac_parser_tree.specs.Trees.{Document}
 use Rattle.wac_parser_resolve.specs.Ascribing.{State, worlds_of}
 use Rattle.wac_parser_resolve.specs.Ascribed.{Asker, composition, made_in}
@@ -37,6 +39,7 @@ use Rattle.wac_workspace.specs.Packages.{AddsPackage, HasBytes, HasHanded, Held,
 use Rattle.wac_workspace.specs.Composing.{AreAscribedBytes, IsDocument, IsMeantBy, IsOutput, MeansSource, output_parts}
 use Rattle.wac_workspace.specs.Resolving.{handed, IsComposition}
 use Rattle.wac_nesting.proofs.Carry.{carries}
+use Rattle.wac_nesting.proofs.OneWorld.{worlds_exist}
 use Rattle.wac_outputs.specs.Calls.{AreCalls, none_yet, then_call, IsCall, hands_in, composes, keeps, IsEntryOf, Outputs_are_as_ascribed, ascribed_over, place_if, place_under, world_in}
 use Rattle.wac_outputs.proofs.Sources.{more_provides, more_states, placed}
 use Rattle.wac_workspace.proofs.Zips.{zip_at, zip_back, zip_last}
@@ -226,7 +229,26 @@ went first last steps none (then_call {steps = before} {old = old} {s = s} calls
     let one = one_call old last (after_all [] before) s w.entries call in
     record { steps_are = steps_more [] before s w.steps_are one.step; entries = subst (AreEntries last.packages) (sym (after_more [] before s)) one.entries }
 
+-- ---- worlds that are true of the packages
+
+in_order : (x : Stated) → AllInOrder (maps_of x).imports × AllInOrder (maps_of x).exports
+in_order x = (fields_ordered (imports_of x), fields_ordered (exports_of x))
+
+are_in_order : (es : List Entry) (packages : List Package) → AreEntries es packages → AreInOrder packages
+are_in_order [] [] zip p m = absurd m
+are_in_order [] (q ∷ qs) zip p m = absurd zip
+are_in_order (e ∷ es) [] zip p m = absurd m
+are_in_order (e ∷ es) (q ∷ qs) zip p (inl is) =
+    subst (λ (w : World). AllInOrder w.imports × AllInOrder w.exports) (sym zip.0.world ∙ ap (λ (r : Package). r.world) (sym is))
+    (in_order (stated_of e.types (ItemKind.Component e.package.ty)))
+are_in_order (e ∷ es) (q ∷ qs) zip p (inr m) = are_in_order es qs zip.1 p m
+
 pub carried : Outputs_are_as_ascribed
 carried first last steps none calls =
     let w = went first last steps none calls in
-    record { steps_are = w.steps_are; entries = w.entries; ascribed = carries steps w.steps_are }
+    record {
+      steps_are = w.steps_are;
+      entries = w.entries;
+      ascribed = carries steps w.steps_are;
+      worlds_exist = worlds_exist steps w.steps_are (are_in_order last.packages (after_all [] steps) w.entries);
+    }

@@ -75,12 +75,13 @@ pub record IsEntryOf (e : Entry) (p : Package) : Type 0 where
   pub leaf : IsLeaf p.ascribed → e.is_handed ≡ true
 
 -- The calls are steps, the packages of the workspace are theirs in order, and each is what is ascribed to it, in all worlds
--- that are true of the packages.
+-- that are true of the packages; and there are such worlds.
 pub record AreAsAscribed (steps : List Step) (last : Held) : Type 0 where
   pub steps_are : AreSteps [] steps
   pub entries : AllZip IsEntryOf last.packages (after_all [] steps)
   pub ascribed : (worlds : Worlds) → AreTrue (after_all [] steps) worlds → (p : Package) → Among p (after_all [] steps)
       → IsAsAscribed worlds (after_all [] steps) p p.ascribed
+  pub worlds_exist : (worlds : Worlds) × AreTrue (after_all [] steps) worlds
 
 -- so it is after all calls of a workspace that had no packages
 abbrev pub Outputs_are_as_ascribed : Type 0
