@@ -5,6 +5,8 @@
 #[cfg(test)]
 mod declared_rows;
 #[cfg(test)]
+mod encoded_rows;
+#[cfg(test)]
 mod handed;
 #[cfg(test)]
 mod memory;

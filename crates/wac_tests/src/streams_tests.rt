@@ -153,3 +153,63 @@ fn a_writer_that_takes_nothing(rt: HostRuntime) -> Result<(), Fail> {
     assert!(rt; workspace.get("a:b", None).is_some());
     Ok(())
 }
+
+/// How a stream ended in which a call failed, what was written, and whether the output is a package then.
+#[derive(Drop)]
+struct Streamed {
+    ended: &'static str,
+    written: Vec<u8>,
+    is_package: bool,
+}
+
+/// Composes the source from reads of twenty bytes to writes of one, where the calls of these numbers fail.
+fn streamed(
+    alloc: Global,
+    failing_read: Option<usize>,
+    failing_write: Option<usize>,
+) -> Result<Streamed, Fail> {
+    let mut workspace = Workspace::new(alloc);
+    let bytes = bytes_of(alloc, PASSING)?;
+    if !matches!(add(alloc, &mut workspace, "p:p", bytes), Some(Ok(()))) {
+        return Err("not added")?;
+    }
+    let mut source = SliceSource::new(SOURCE.as_bytes());
+    source.most = 20;
+    source.fails_at = failing_read;
+    let mut sink = VecSink::byte_by_byte(alloc);
+    sink.fails_at = failing_write;
+    let options = EncodeOptions::default();
+    let ended = ended(compose_stream(&mut workspace, &mut source, &mut sink, options));
+    Ok(Streamed {
+        ended,
+        written: sink.taken,
+        is_package: workspace.get("m:m", None).is_some(),
+    })
+}
+
+#[test]
+fn each_read_fails(rt: HostRuntime) -> Result<(), Fail> {
+    for at in 1..5 {
+        let refused = streamed(rt.alloc(), Some(at), None)?;
+        assert_eq!(rt; refused.ended, "unread");
+        assert!(rt; refused.written.is_empty());
+        assert!(rt; !refused.is_package);
+    }
+    let whole = streamed(rt.alloc(), Some(5), None)?;
+    assert_eq!(rt; whole.ended, "whole");
+    assert!(rt; whole.is_package);
+    Ok(())
+}
+
+#[test]
+fn each_write_fails(rt: HostRuntime) -> Result<(), Fail> {
+    let wanted = bytes_of(rt.alloc(), ONE)?;
+    for before in 0..wanted.len() {
+        let cut = streamed(rt.alloc(), None, Some(before.saturating_add(1)))?;
+        assert_eq!(rt; cut.ended, "unwritten");
+        assert_eq!(rt; cut.written.len(), before);
+        assert!(rt; wanted.as_slice().starts_with(cut.written.as_slice()));
+        assert!(rt; cut.is_package);
+    }
+    Ok(())
+}
