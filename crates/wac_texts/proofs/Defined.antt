@@ -1,12 +1,11 @@
 -- The graph of a resolved document defines each world that the document declares.
-use Rattle.std.specs.Prelude.{bytes_eq, if◌then◌else◌}
-use Rattle.std.specs.List.{map}
+use Rattle.std.specs.Prelude.{bytes_eq, map, if◌then◌else◌}
 use Rattle.std.proofs.Common.{◌≡◌, List, [], ◌∷◌, ◌++◌, Bool, true, false, Option, Some, Ok, refl, sym, ap, subst, ◌∙◌}
 use Rattle.std.proofs.lemmas.Slice.Eq.{bytes_eq-Decides}
 use Rattle.wac_types_base.specs.declared.ids.WorldId.{WorldId}
 use Rattle.wac_types_base.specs.declared.item.ItemKind.{ItemKind}
 use Rattle.wac_types_base.specs.declared.item.«Type».{«Type» as TypeKind}
-use Rattle.wac_types_base.specs.Collection.{IsAcyclic, Stands, stated_of}
+use Rattle.wac_types_base.specs.Collection.{IsAcyclic}
 use Rattle.wac_types_base.specs.Entries.{Name}
 use Rattle.wac_types_base.specs.Graph.{Among}
 use Rattle.wac_types_base.specs.Stated.{Stated, IsWorld, kind_of, as_type, world_of}
@@ -34,7 +33,7 @@ use Rattle.wac_texts.specs.Laws.{Declared_worlds_are_defined, DefinesWorld}
 -- ---- what statements define
 
 -- a world is defined under the name
-HasWorld : Name → State → Type 0
+abbrev HasWorld : Name → State → Type 0
 HasWorld name s = (x : Stated) × Among (name, x) s.definitions × (kind_of x ≡ IsWorld)
 
 kept : (name : Name) (g h : State) → SameDefinitions g h → HasWorld name g → HasWorld name h
