@@ -163,7 +163,7 @@ struct Streamed {
 }
 
 /// Composes the source from reads of twenty bytes to writes of one, where the calls of these numbers fail.
-fn streamed(
+fn stream_source(
     alloc: Global,
     failing_read: Option<usize>,
     failing_write: Option<usize>,
@@ -179,9 +179,9 @@ fn streamed(
     let mut sink = VecSink::byte_by_byte(alloc);
     sink.fails_at = failing_write;
     let options = EncodeOptions::default();
-    let ended = ended(compose_stream(&mut workspace, &mut source, &mut sink, options));
+    let word = ended(compose_stream(&mut workspace, &mut source, &mut sink, options));
     Ok(Streamed {
-        ended,
+        ended: word,
         written: sink.taken,
         is_package: workspace.get("m:m", None).is_some(),
     })
@@ -190,12 +190,12 @@ fn streamed(
 #[test]
 fn each_read_fails(rt: HostRuntime) -> Result<(), Fail> {
     for at in 1..5 {
-        let refused = streamed(rt.alloc(), Some(at), None)?;
+        let refused = stream_source(rt.alloc(), Some(at), None)?;
         assert_eq!(rt; refused.ended, "unread");
         assert!(rt; refused.written.is_empty());
         assert!(rt; !refused.is_package);
     }
-    let whole = streamed(rt.alloc(), Some(5), None)?;
+    let whole = stream_source(rt.alloc(), Some(5), None)?;
     assert_eq!(rt; whole.ended, "whole");
     assert!(rt; whole.is_package);
     Ok(())
@@ -205,7 +205,7 @@ fn each_read_fails(rt: HostRuntime) -> Result<(), Fail> {
 fn each_write_fails(rt: HostRuntime) -> Result<(), Fail> {
     let wanted = bytes_of(rt.alloc(), ONE)?;
     for before in 0..wanted.len() {
-        let cut = streamed(rt.alloc(), None, Some(before.saturating_add(1)))?;
+        let cut = stream_source(rt.alloc(), None, Some(before.saturating_add(1)))?;
         assert_eq!(rt; cut.ended, "unwritten");
         assert_eq!(rt; cut.written.len(), before);
         assert!(rt; wanted.as_slice().starts_with(cut.written.as_slice()));
