@@ -12,7 +12,7 @@ use Rattle.wac_graph_bytes.specs.declared.value.Description.{Description}
 use Rattle.wac_graph_bytes.specs.declared.value.Description.TheVariants as desc
 use Rattle.wac_graph_bytes.specs.declared.entry.Declaration.{Declaration, Export}
 use Rattle.wac_graph_bytes.specs.Entries.{End}
-use Rattle.wac_graph_bytes.specs.Typing.{◌>>=◌, Worlds, Meaning, Item, Scope, with_one, Inside, nothing_inside, exports_inside, declared, described, item_of, as_func, as_sort, type_tree, type_at}
+use Rattle.wac_graph_bytes.specs.Typing.{◌>>=◌, Worlds, Meaning, Item, Scope, with_one, Inside, nothing_inside, exports_inside, declared, described, item_of, type_tree, type_at}
 use Rattle.wac_graph_bytes.specs.Views.{before, declarations_of}
 use Rattle.wac_graph_bytes.proofs.Steps.{get_last}
 use Rattle.wac_graph_bytes.proofs.Extending.{one_more}
@@ -45,14 +45,6 @@ module _ (w : Worlds) (c : Collection) (outer : List Scope) (i : Inside) where
         imports = refl;
         exports = refl;
       }
-
-  pub func_exported : (n : String Global) (k : ℕ) (t : Tree) (s u : TypeScope) → IsScope w c outer i s → type_at w (i.here ∷ outer) k ≡ Some t → as_func t ≡ Some t
-      → u.declarations.items ≡ s.declarations.items ++ Export n (desc.Func k) ∷ [] → u.types ≡ s.types → u.known ≡ s.known → u.resources ≡ s.resources
-      → Exports w c outer i (string_bytes n) t u
-  func_exported n k t s u h at is ds ts ks rs =
-      export_added n (desc.Func k) (sort.Func, t) s u h
-      (ap (λ (o : Option Tree). o >>= as_sort sort.Func >>= λ y. Some (sort.Func, y)) at ∙ ap (λ (o : Option Tree). o >>= λ y. Some (sort.Func, y)) is)
-      ds (ts ∙ h.types) ks rs
 
   pub type_exported : (n : String Global) (k : ℕ) (t : Tree) (s u : TypeScope) → IsScope w c outer i s → type_at w (i.here ∷ outer) k ≡ Some t
       → u.declarations.items ≡ s.declarations.items ++ Export n (desc.Equal k) ∷ [] → u.types ≡ s.types + 1 → u.known ≡ s.known → u.resources ≡ s.resources

@@ -1,10 +1,12 @@
 -- Places of imports under names: of each name the first is found.
 use Rattle.std.proofs.Common.{◌≡◌, ℕ, suc, ◌+◌, List, [], ◌∷◌, ◌++◌, length, take, Option, Some, None, ◌==◌, Bool, true, false, cond, inl, inr, refl, sym, ap, subst, ◌∙◌, arith, append_assoc, slice_get}
-use Rattle.std.specs.Prelude.{is_some}
+use Rattle.std.specs.Prelude.{is_some, unwrap_or}
 use Rattle.std.specs.Option.{option_or}
 use Rattle.std.specs.Cmp.Lexicographic.{pointwise}
 use Rattle.wac_types_base.specs.declared.ids.InterfaceId.{InterfaceId}
 use Rattle.wac_types_base.specs.declared.item.ItemKind.{ItemKind}
+use Rattle.wac_types_base.specs.declared.defined.UsedType.{UsedType}
+use Rattle.wac_types_base.specs.Record.{Collection}
 use Rattle.wac_types_base.specs.Entries.{Name, value_at}
 use Rattle.wac_types_base.specs.Parts.{identifier_in}
 use Rattle.wac_types_base.proofs.Lists.{name_tested}
@@ -15,10 +17,10 @@ use Rattle.wac_graph_scopes.specs.declared.imports.Called.{Called}
 use Rattle.wac_graph_scopes.specs.declared.imports.Importing.{Importing}
 use Rattle.wac_graph_scopes.specs.declared.imports.ImportScope.{ImportScope}
 use Rattle.wac_graph_scopes.specs.declared.parts.Use.{Use}
-use Rattle.wac_graph_scopes.specs.Parts.{interface_in}
+use Rattle.wac_graph_scopes.specs.Parts.{interface_in, exports_of, world_uses_of, IsUseNamed, used_if, taken_in}
 use Rattle.wac_graph_scopes.specs.Used.{IsUsedAs}
 use Rattle.wac_graph_scopes.specs.Items.{Never}
-use Rattle.wac_graph_scopes.specs.Imports.{IsInstanceImport, called_places, own_places, FindsFirst, IsImportedAs, IsFoundFor}
+use Rattle.wac_graph_scopes.specs.Imports.{IsUseOf, IsInstanceImport, called_places, own_places, FindsFirst, IsImportedAs, IsFoundFor}
 
 value_or : {T : Type 0} (xs ys : List (Name × T)) (n : Name) → value_at (xs ++ ys) n ≡ option_or (value_at xs n) (value_at ys n)
 value_or [] ys n = refl
@@ -87,3 +89,19 @@ found_nowhere a s u item i is no_used no_import k h =
       | inl x ↦ no_used k (subst (λ (m : Name). IsUsedAs a.types.now s.used m u.there.now item k) this x)
       | inr x ↦ no_import k (subst (λ (m : Name). IsImportedAs a s m u.there.now item k) this x)
     ]
+
+-- ---- uses of a name
+
+named_once : (c : Collection) (us : List (Name × UsedType)) (n : Name) (u v : Use) → IsUseNamed us n u → IsUseNamed us n v → taken_in c u ≡ taken_in c v
+named_once c us n u v x y =
+    let same : x.0 ≡ y.0 = cc (x.1, y.1) in
+    let there : u.there.now ≡ v.there.now = x.2.there ∙ ap (λ (e : UsedType). unwrap_or e.name n) same ∙ sym y.2.there in
+    let one : u.interface ≡ v.interface = x.2.interface ∙ ap (λ (e : UsedType). e.interface) same ∙ sym y.2.interface in
+    ap (λ (i : InterfaceId). used_if (value_at (exports_of c i) u.there.now)) one ∙ ap (λ (m : Name). used_if (value_at (exports_of c v.interface) m)) there
+
+-- the uses of a name take one type
+pub taken_once : (a : Importing) (n : Name) (u v : Use) → IsUseOf a n u → IsUseOf a n v → taken_in a.types.now u ≡ taken_in a.types.now v
+taken_once a n u v (inl x) (inl y) = named_once a.types.now (world_uses_of a.types.now a.world) n u v x y
+taken_once a n u v (inr x) (inr y) = named_once a.types.now a.uses.now n u v x.1 y.1
+taken_once a n u v (inl x) (inr y) = absurd (cc (x.1, y.0))
+taken_once a n u v (inr x) (inl y) = absurd (cc (x.0, y.1))

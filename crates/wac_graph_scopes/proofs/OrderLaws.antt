@@ -1,20 +1,23 @@
 -- One place after another in an order.
 use Rattle.std.proofs.Common.{◌≡◌, ◌<◌, ℕ, ◌+◌, zero, suc, Bool, true, false, List, [], ◌∷◌, ◌++◌, length, Some, slice_get, slice_set, refl, sym, ap, ◌∙◌, subst, arith, append_assoc, inl, inr}
-use Rattle.std.specs.Prelude.{◌⊎◌, eqb, Option, None, IfNone}
+use Rattle.std.specs.Prelude.{◌⊎◌, eqb, Option, None, IfSome, IfNone}
 use Rattle.std.specs.Option.{is_some}
 use Rattle.std.proofs.lemmas.Bool.Decides.{Decides-eqb}
 use Rattle.std.proofs.lemmas.Option.{slice_get_within}
 use Rattle.wac_types_base.proofs.Replacing.{slice_get-set_same, slice_get-set_other}
 use Rattle.std.proofs.lemmas.List.{append-nil}
+use Rattle.wac_types_base.specs.declared.ids.InterfaceId.{InterfaceId}
+use Rattle.wac_types_base.specs.declared.item.ItemKind.{ItemKind}
 use Rattle.wac_types_base.specs.Graph.{Among}
-use Rattle.wac_types_base.specs.Entries.{AreDistinct}
+use Rattle.wac_types_base.specs.Entries.{Name, AreDistinct}
 use Rattle.wac_types_base.proofs.Adding.{Among-left, Among-right}
 use Rattle.wac_types_base.proofs.Lists.{among_split}
 use Rattle.wac_graph_bytes.proofs.Steps.{get_kept, get_last}
 use Rattle.wac_graph_scopes.specs.declared.imports.Importing.{Importing}
 use Rattle.wac_graph_scopes.specs.declared.order.Turn.{Turn}
+use Rattle.wac_graph_scopes.specs.Parts.{IsOfInterface}
 use Rattle.wac_graph_scopes.specs.Imports.{all_imports}
-use Rattle.wac_graph_scopes.specs.Orders.{IsOrder, IsBegun, Puts, AreTurns, EarlyFirst, SourcesFirst}
+use Rattle.wac_graph_scopes.specs.Orders.{IsOrder, IsBegun, Puts, IsSource, AreTurns, EarlyFirst, SourcesFirst}
 
 pub distinct-append : {X : Type 0} (xs ys : List X) → AreDistinct xs → AreDistinct ys → ((x : X) → Among x xs → Among x ys → ⊥) → AreDistinct (xs ++ ys)
 distinct-append [] ys d e h = e
@@ -164,6 +167,13 @@ sources_first a ts ks len turns first at n k e source =
 pub no_interface : {T : Type 0} {P : Type 0} (o : Option T) → false ≡ is_some o → IfNone o P → P
 no_interface None e h = h
 no_interface (Some x) e h = absurd (cc e)
+
+pub same_item : {o : Option (Name × ItemKind)} (x y : Name × ItemKind) → o ≡ Some x → o ≡ Some y → x.1 ≡ y.1
+same_item x y e f = let same : x ≡ y = cc (e, f) in ap (λ p. p.1) same
+
+pub has_interface : (k : ItemKind) (o : Option InterfaceId) → true ≡ is_some o → IfSome o (IsOfInterface k) → IsSource k
+has_interface k None e h = absurd (cc e)
+has_interface k (Some i) e h = (i, h)
 
 -- ---- one turn
 

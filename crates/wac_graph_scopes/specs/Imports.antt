@@ -11,7 +11,7 @@ use Rattle.wac_types_base.specs.Entries.{Name, names_of, value_at, AreDistinct}
 use Rattle.wac_types_base.specs.Parts.{identifier_in}
 use Rattle.wac_types_base.specs.Collection.{Stands}
 use Rattle.wac_types_base.specs.Tree.{Tree}
-use Rattle.wac_types_fit.specs.Trees.{tree_in}
+use Rattle.wac_types_fit.specs.Trees.{tree_in, SameTree}
 use Rattle.wac_graph_bytes.specs.declared.value.Sort.{Sort}
 use Rattle.wac_graph_bytes.specs.declared.value.Sort.TheVariants as sort
 use Rattle.wac_graph_bytes.specs.declared.value.Description.{Description}
@@ -26,10 +26,11 @@ use Rattle.wac_graph_scopes.specs.declared.imports.Importing.{Importing}
 use Rattle.wac_graph_scopes.specs.declared.imports.SortIndex.{SortIndex}
 use Rattle.wac_graph_scopes.specs.declared.imports.ImportScope.{ImportScope}
 use Rattle.wac_graph_scopes.specs.declared.imports.Called.{Called}
+use Rattle.wac_graph_scopes.specs.declared.imports.TakenUse.{TakenUse}
 use Rattle.wac_graph_scopes.specs.declared.parts.Item.{Item}
 use Rattle.wac_graph_scopes.specs.declared.parts.Use.{Use}
 use Rattle.wac_graph_scopes.specs.Used.{IsUsedAs}
-use Rattle.wac_graph_scopes.specs.Parts.{interface_in, exports_of, world_uses_of, imports_of, world_exports_of, IsUseNamed, IsUsedKind}
+use Rattle.wac_graph_scopes.specs.Parts.{interface_in, exports_of, world_uses_of, imports_of, world_exports_of, IsUseNamed, IsUsedKind, taken_in}
 use Rattle.wac_graph_scopes.specs.Scopes.{Extends, GoesOn, AreKnown}
 use Rattle.wac_graph_scopes.specs.Items.{IsItemScope, AreUsed, IsTypeItem, IsInstanceAt, IsTreeOf, sort_of, IsSorted, Writing, StatesComponent}
 
@@ -44,6 +45,17 @@ all_exports a = world_exports_of a.types.now a.world
 abbrev pub IsUseOf : Importing → Name → Use → Type 0
 IsUseOf a n u = IsUseNamed (world_uses_of a.types.now a.world) n u
     ⊎ ((value_at (world_uses_of a.types.now a.world) n ≡ None) × IsUseNamed a.uses.now n u)
+
+-- the use gives the import: it is that of its name, and what it takes has the import's tree
+pub record IsGivenBy (a : Importing) (x : Item) (t : TakenUse) : Type 0 where
+  pub use_is : IsUseOf a x.name.now t.used
+  pub taken : taken_in a.types.now t.used ≡ Some t.item
+  pub taken_stands : Stands a.types.now t.item
+  pub stands : Stands a.types.now x.kind
+  pub same : SameTree a.types.now t.item a.types.now x.kind
+
+abbrev pub IsGiven : Importing → Item → Type 0
+IsGiven a x = (t : TakenUse) × IsGivenBy a x t
 
 -- ---- what is written of imports
 

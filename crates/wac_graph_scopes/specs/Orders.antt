@@ -4,8 +4,9 @@ use Rattle.wac_types_base.specs.declared.ids.InterfaceId.{InterfaceId}
 use Rattle.wac_types_base.specs.declared.item.ItemKind.{ItemKind}
 use Rattle.wac_graph_scopes.specs.declared.imports.Importing.{Importing}
 use Rattle.wac_graph_scopes.specs.declared.order.Turn.{Turn}
-use Rattle.wac_graph_scopes.specs.Parts.{IsOfInterface}
-use Rattle.wac_graph_scopes.specs.Imports.{all_imports}
+use Rattle.wac_graph_scopes.specs.declared.parts.Item.{Item}
+use Rattle.wac_graph_scopes.specs.Parts.{IsOfInterface, IsFresh}
+use Rattle.wac_graph_scopes.specs.Imports.{all_imports, IsGiven}
 use Rattle.wac_types_base.specs.Graph.{Among}
 use Rattle.wac_types_base.specs.Entries.{Name, AreDistinct}
 
@@ -55,6 +56,12 @@ abbrev pub IsEarly : Turn → Type 0
 IsEarly Turn.Fresh = Unit {0}
 IsEarly Turn.Interfaces = Unit {0}
 IsEarly t = ⊥
+
+-- early it is the turn of a resource under its own name, of a source, or of what a use gives
+abbrev pub HasTurn : Importing → Item → Turn → Type 0
+HasTurn a x Turn.Fresh = IsFresh a.types.now x.name.now x.kind
+HasTurn a x Turn.Interfaces = IsSource x.kind ⊎ IsGiven a x
+HasTurn a x t = Unit {0}
 
 -- it is early the turn of a source
 abbrev pub IsTurnAt : Importing → ℕ → Turn → Type 0

@@ -20,7 +20,7 @@ use Rattle.wac_types_fit.specs.Trees.{tree_in}
 use Rattle.wac_graph_bytes.specs.declared.value.Sort.{Sort}
 use Rattle.wac_graph_bytes.specs.declared.value.ValueType.{ValueType as Written}
 use Rattle.wac_graph_bytes.specs.declared.value.ValueType.TheVariants.{Index}
-use Rattle.wac_graph_bytes.specs.Typing.{Worlds, Meaning, Known, Scope, space, Inside, nothing_inside, adds_inside, declared, defined, item_of, type_at, value_of, as_func}
+use Rattle.wac_graph_bytes.specs.Typing.{Worlds, Meaning, Known, Scope, space, Inside, nothing_inside, adds_inside, declared, defined, item_of, type_at, value_of}
 use Rattle.wac_graph_bytes.specs.declared.entry.DefinedType.{DefinedType}
 use Rattle.wac_graph_bytes.specs.declared.entry.Declaration.{Declaration}
 use Rattle.wac_graph_bytes.specs.declared.value.Sort.TheVariants as sort
@@ -29,7 +29,7 @@ use Rattle.wac_graph_bytes.specs.Views.{before, declarations_of, defined_view}
 use Rattle.wac_graph_scopes.specs.declared.scope.KnownType.{KnownType}
 use Rattle.wac_graph_scopes.specs.declared.scope.KnownTypes.{KnownTypes}
 use Rattle.wac_graph_scopes.specs.declared.scope.TypeScope.{TypeScope}
-use Rattle.wac_graph_scopes.specs.Known.{ArePlaces, HasPrint, HasTree, HasId, IsIndexOf}
+use Rattle.wac_graph_scopes.specs.Known.{ArePlaces, HasPrint, HasTree, HasId, DiffersAt, IsIndexOf}
 
 -- more may stand, and what stood stands
 pub record Extends (old new : Scope) : Type 0 where
@@ -200,6 +200,10 @@ WritesEntry c id old new r =
 abbrev pub FindsTree : Collection → TypeScope → ValueType → Option ℕ → Type 0
 FindsTree c s v o = IsScopeOf c s → IfNone o (HasTree c s.known.all.items (tree_in c (ItemKind.Value v)) → ⊥)
 
+-- the type at a place is not found only where it has another tree
+abbrev pub FindsTreeAt : Collection → TypeScope → ValueType → (at : ℕ) → Option ℕ → Type 0
+FindsTreeAt c s v at o = IfNone o (DiffersAt c s.known.all.items (tree_in c (ItemKind.Value v)) at)
+
 -- a value type that is known by its own id is written as the index that is remembered of it
 abbrev pub WritesOwn : {E : Type 0} → TypeScope → ValueType → Result Written E → Type 0
 WritesOwn s v r = (d : DefinedTypeId) (k : ℕ) → v ≡ ValueType.Defined d → IsIndexOf s.known d k → IfOk r (λ b. b ≡ Index k)
@@ -251,11 +255,6 @@ abbrev pub Defines : {E : Type 0} → DefinedType → TypeScope → TypeScope �
 Defines ty old new r = (w : Worlds) (c : Collection) (outer : List Scope) (i : Inside) (t : Tree) → IsScope w c outer i old
     → defined w (i.here ∷ outer) (defined_view ty) ≡ Some t
     → IfOk r (λ k. AnswersType w c outer i t new k)
-
-abbrev pub ExportsFunction : {U E : Type 0} → Name → ℕ → TypeScope → TypeScope → Result U E → Type 0
-ExportsFunction n ty old new r = (w : Worlds) (c : Collection) (outer : List Scope) (i : Inside) (t : Tree)
-    → IsScope w c outer i old → type_at w (i.here ∷ outer) ty ≡ Some t → as_func t ≡ Some t
-    → IfOk r (λ _. Exports w c outer i n t new)
 
 abbrev pub ExportsNewType : {E : Type 0} → Name → ℕ → TypeScope → TypeScope → Result ℕ E → Type 0
 ExportsNewType n ty old new r = (w : Worlds) (c : Collection) (outer : List Scope) (i : Inside) (t : Tree)

@@ -15,7 +15,7 @@ ghost use Rattle.wac_graph_scopes.specs.Parts.{IsUsedKind};
 ghost use Rattle.wac_graph_scopes.specs.Items.{IsItemScope, with_known, Never, Misses, HasNameAt, HasEntry, IsNoResource, DescribesSimply, DescribesEntry, DescribesOwn};
 ghost use Rattle.wac_graph_scopes.specs.Orders.{IsOrder, SourcesFirst};
 ghost use Rattle.wac_graph_scopes.specs.ItemRefusals.{RefusedTypeApart, RefusedItem, RefusedUse};
-ghost use Rattle.wac_graph_scopes.specs.Imports.{all_imports, all_exports, IsUseOf, NoneWritten, IsInstanceImport, IsPlaced, GivesTaken, NotGiven, FindsSource, AddsUsed, AliasesUse, KeepsWorld, DescribesImport, DescribesThere, DescribesOther, MayDescribe};
+ghost use Rattle.wac_graph_scopes.specs.Imports.{all_imports, all_exports, IsUseOf, IsGivenBy, NoneWritten, IsInstanceImport, IsPlaced, GivesTaken, NotGiven, FindsSource, AddsUsed, AliasesUse, KeepsWorld, DescribesImport, DescribesThere, DescribesOther, MayDescribe};
 ghost use Rattle.wac_graph_scopes.specs.Imports.{called_places, own_places, import_places, FindsFirst, IsImportedAs, IsFoundFor, FindsImported};
 ghost use Rattle.wac_graph_scopes.specs.Imports.{ImportsDescribed, ImportsAt, WritesImport, WritesInOrder, ExportsIndexed, BeginsWorld};
 
@@ -65,6 +65,13 @@ pub struct ImportScope {
     found: NamedMap<usize>,
 }
 
+/// A use, and the type that it takes.
+#[derive(Clone, Copy)]
+pub(crate) struct TakenUse<'a> {
+    pub used: Use<'a>,
+    pub item: ItemKind,
+}
+
 /// A world whose imports are written, and by which other names they are asked for.
 #[derive(Clone, Copy)]
 pub struct Importing<'a> {
@@ -85,6 +92,31 @@ pub(crate) fn use_of<'a>(all: Importing<'a>, name: &'a str) -> Option<Use<'a>>
     match world_use_named(all.types, all.world, name) {
         Some(used) => Some(used),
         None => use_named(all.uses, name),
+    }
+}
+
+/// The use that gives an import: that of its name, if it takes a type with the import's tree.
+pub(crate) fn use_giving<'a>(
+    alloc: Global,
+    all: Importing<'a>,
+    import: Item<'a>,
+) -> Result<Option<TakenUse<'a>>, AllocError>
+    ensures found { IfOk result (λ o. IfSome o (IsGivenBy all.entry import.entry)) }
+    ensures kind { IfOk result (λ o. IfSome o (λ t. IsUsedKind t.item)) }
+    ensures none { IfOk result (λ o. IfNone o (Never (IsGivenBy all.entry import.entry))) }
+{
+    all.types.see_acyclic();
+    let Some(used) = use_of(all, import.name) else {
+        return Ok(None);
+    };
+    let Some(item) = taken(all.types, used) else {
+        return Ok(None);
+    };
+    let fits = fits_in(alloc, all.types, item, import.kind)?;
+    if fits {
+        Ok(Some(TakenUse { used, item }))
+    } else {
+        Ok(None)
     }
 }
 
@@ -552,34 +584,12 @@ impl ImportScope {
     ) -> Result<Option<Description>, WriteError>
         ensures { MayDescribe all.entry import.entry self.old self.new result }
     {
-        let Some(used) = use_of(all, import.name) else {
+        all.types.see_acyclic();
+        let given = use_giving(alloc, all, import)?;
+        let Some(given) = given else {
             return Ok(None);
         };
-        match taken(all.types, used) {
-            Some(item) => self.describe_taken(alloc, all, used, item, import),
-            None => Ok(None),
-        }
-    }
-
-    /// What a type is that a use takes, where it is imported.
-    fn describe_taken(
-        &mut self,
-        alloc: Global,
-        all: Importing<'_>,
-        used: Use<'_>,
-        item: ItemKind,
-        import: Item<'_>,
-    ) -> Result<Option<Description>, WriteError>
-        requires stands { Stands all.types.now item }
-        requires kind { IsUsedKind item }
-        ensures { MayDescribe all.entry import.entry self.old self.new result }
-    {
-        all.types.see_acyclic();
-        let fits = fits_in(alloc, all.types, item, import.kind)?;
-        if !fits {
-            return Ok(None);
-        }
-        let found = self.alias_of(alloc, all, used, item)?;
+        let found = self.alias_of(alloc, all, given.used, given.item)?;
         match found {
             Some(index) => Ok(Some(Description::Equal(index))),
             None => Ok(None),

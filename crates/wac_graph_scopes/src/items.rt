@@ -270,7 +270,10 @@ pub(crate) fn exports_taken(
 {
     types.see_acyclic();
     match export_named(types, id, name) {
-        Some(own) => fits_in(alloc, types, own, item),
+        Some(own) => {
+            let fits = fits_in(alloc, types, own, item)?;
+            Ok(fits)
+        }
         None => Ok(false),
     }
 }

@@ -4,11 +4,11 @@ ghost use Rattle.std.specs.Prelude.{◌≡◌, ◌↔◌, ◌<◌, ℕ, [], true
 ghost use Rattle.wac_types_base.specs.declared.item.ItemKind.{ItemKind};
 ghost use Rattle.wac_types_base.specs.Entries.{names_of, AreDistinct};
 ghost use Rattle.wac_types_base.specs.Collection.{Stands};
-ghost use Rattle.wac_graph_scopes.specs.Imports.{all_imports, all_exports};
+ghost use Rattle.wac_graph_scopes.specs.Imports.{all_imports, all_exports, IsGiven};
 ghost use Rattle.wac_graph_scopes.specs.declared.order.Turn.TheVariants as TheTurn;
-ghost use Rattle.wac_graph_scopes.specs.Orders.{IsOrder, IsBegun, Puts, Marks, Leaves, IsDone, AreDone, IsSource, IsEarly, IsTurnAt, AreTurns, EarlyFirst, SourcesFirst};
+ghost use Rattle.wac_graph_scopes.specs.Orders.{IsOrder, IsBegun, Puts, Marks, Leaves, IsDone, AreDone, IsSource, IsEarly, HasTurn, IsTurnAt, AreTurns, EarlyFirst, SourcesFirst};
 
-use crate::imports::{Importing, use_of};
+use crate::imports::{Importing, use_giving};
 use crate::parts::{
     Item, Use, export_at, export_count, identifier, import_at, import_count, interface_of,
     is_fresh, use_at, use_count, world_export_at, world_export_count, world_use_named,
@@ -52,33 +52,66 @@ fn place_of_use(types: &Types, found: &NamedMap<usize>, used: Use<'_>) -> Option
 }
 
 /// Where the import of the interface stands of which an import is a used type.
-fn place_of_used(all: Importing<'_>, found: &NamedMap<usize>, import: Item<'_>) -> Option<usize> {
-    let used = use_of(all, import.name)?;
-    place_of_use(all.types, found, used)
+fn place_of_used(
+    alloc: Global,
+    all: Importing<'_>,
+    found: &NamedMap<usize>,
+    import: Item<'_>,
+) -> Result<Option<usize>, AllocError> {
+    let given = use_giving(alloc, all, import)?;
+    match given {
+        Some(given) => Ok(place_of_use(all.types, found, given.used)),
+        None => Ok(None),
+    }
+}
+
+/// Whether a use of a name is one of the world itself, or of an interface that is imported.
+fn is_found(all: Importing<'_>, found: &NamedMap<usize>, name: &str, used: Use<'_>) -> bool {
+    world_use_named(all.types, all.world, name).is_some()
+        || place_of_use(all.types, found, used).is_some()
 }
 
 /// Whether it is a used type: one that the world uses itself, or one of an interface that is imported.
-fn is_used(all: Importing<'_>, found: &NamedMap<usize>, import: Item<'_>) -> bool {
-    world_use_named(all.types, all.world, import.name).is_some()
-        || place_of_used(all, found, import).is_some()
+fn is_used(
+    alloc: Global,
+    all: Importing<'_>,
+    found: &NamedMap<usize>,
+    import: Item<'_>,
+) -> Result<bool, AllocError>
+    ensures { IfOk result (λ yes. yes ≡ true → IsGiven all.entry import.entry) }
+{
+    let given = use_giving(alloc, all, import)?;
+    match given {
+        Some(given) => Ok(is_found(all, found, import.name, given.used)),
+        None => Ok(false),
+    }
 }
 
-fn turn_of(all: Importing<'_>, found: &NamedMap<usize>, import: Item<'_>) -> Turn
-    ensures { Stands all.entry.types.now import.entry.kind → IsSource import.entry.kind → IsEarly result }
+/// When it is the turn of an import.
+fn turn_of(
+    alloc: Global,
+    all: Importing<'_>,
+    found: &NamedMap<usize>,
+    import: Item<'_>,
+) -> Result<Turn, AllocError>
+    ensures early { IfOk result
+        (λ t. Stands all.entry.types.now import.entry.kind → IsSource import.entry.kind → IsEarly t) }
+    ensures only { IfOk result (HasTurn all.entry import.entry) }
 {
-    if is_used(all, found, import) {
-        return Turn::Interfaces;
+    let used = is_used(alloc, all, found, import)?;
+    if used {
+        return Ok(Turn::Interfaces);
     }
     if is_fresh(all.types, import) {
-        return Turn::Fresh;
+        return Ok(Turn::Fresh);
     }
     if interface_of(all.types, import.kind).is_some() {
-        return Turn::Interfaces;
+        return Ok(Turn::Interfaces);
     }
     if matches!(import.kind, ItemKind::Ty(_)) {
-        Turn::Types
+        Ok(Turn::Types)
     } else {
-        Turn::Others
+        Ok(Turn::Others)
     }
 }
 
@@ -137,18 +170,24 @@ fn turns_of(
 {
     let mut turns = Vec::new(alloc);
     for at in 0..import_count(all.types, all.world) {
-        turns.push(turn_at(all, found, at))?;
+        let turn = turn_at(alloc, all, found, at)?;
+        turns.push(turn)?;
     }
     Ok(turns)
 }
 
 /// When it is the turn of the import at a place.
-fn turn_at(all: Importing<'_>, found: &NamedMap<usize>, at: usize) -> Turn
-    ensures { IsTurnAt all.entry at result }
+fn turn_at(
+    alloc: Global,
+    all: Importing<'_>,
+    found: &NamedMap<usize>,
+    at: usize,
+) -> Result<Turn, AllocError>
+    ensures { IfOk result (IsTurnAt all.entry at) }
 {
     match import_at(all.types, all.world, at) {
-        Some(import) => turn_of(all, found, import),
-        None => Turn::Others,
+        Some(import) => turn_of(alloc, all, found, import),
+        None => Ok(Turn::Others),
     }
 }
 
@@ -232,7 +271,8 @@ fn needs_of_import(
     let Some(import) = import_at(all.types, all.world, at) else {
         return Ok(needs);
     };
-    match place_of_used(all, found, import) {
+    let used = place_of_used(alloc, all, found, import)?;
+    match used {
         Some(place) => needs.push(place)?,
         None => {
             add_uses_before(alloc, all, found, order, at, &mut needs)?;

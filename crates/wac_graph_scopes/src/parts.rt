@@ -192,16 +192,6 @@ pub fn export_named(types: &Types, id: InterfaceId, name: &str) -> Option<ItemKi
 
 // ---- worlds
 
-pub fn world_identifier(types: &Types, id: WorldId) -> Option<&str> {
-    if !types.has(ItemKind::Component(id)) {
-        return None;
-    }
-    match &types.world(id).id {
-        Some(text) => Some(text.as_str()),
-        None => None,
-    }
-}
-
 pub fn world_use_count(types: &Types, id: WorldId) -> usize
     ensures len { result ≡ length (world_uses_of types.now id) }
     ensures distinct { AreDistinct (names_of (world_uses_of types.now id)) }

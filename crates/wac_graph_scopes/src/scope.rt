@@ -10,7 +10,7 @@ ghost use Rattle.wac_graph_scopes.specs.declared.scope.KnownType.{KnownType};
 ghost use Rattle.wac_graph_bytes.specs.Typing.{Worlds, Scope, nothing_inside};
 ghost use Rattle.wac_graph_scopes.specs.Prints.{ArePrints};
 ghost use Rattle.wac_graph_scopes.specs.Known.{ArePlaces, HasId, IsIndexOf, FindsPrint};
-ghost use Rattle.wac_graph_scopes.specs.Scopes.{AreKnown, PutsKnown, IsScope, Exchanges, FindsAt, FindsType, Defines, MakesEntry, ExportsFunction, ExportsNewType, Remembers, FindsKnown, KnowsResource, NotesResource, NotesEntry};
+ghost use Rattle.wac_graph_scopes.specs.Scopes.{AreKnown, PutsKnown, IsScope, Exchanges, FindsAt, FindsType, Defines, MakesEntry, ExportsNewType, Remembers, FindsKnown, KnowsResource, NotesResource, NotesEntry};
 
 use crate::prints::Prints;
 use indexmap::IndexMap;
@@ -174,15 +174,6 @@ impl TypeScope {
         self.declarations.push(Declaration::Defined(ty))?;
         self.types = next_of(index);
         Ok(index)
-    }
-
-    /// Exports a function of the type at an index.
-    pub fn export_func(&mut self, name: String, ty: u64) -> Result<(), AllocError>
-        ensures { ExportsFunction (string_bytes name) ty self.old self.new result }
-    {
-        self.declarations
-            .push(Declaration::Export(name, Description::Func(ty)))?;
-        Ok(())
     }
 
     /// Exports a type that is the one at an index; the export has an index of its own.

@@ -1,6 +1,6 @@
 //! Types of values and functions in a scope of written types.
 
-ghost use Rattle.std.specs.Prelude.{◌≡◌, ℕ, Some, IfNone, IfOk, IfErr, OnOk, true, false};
+ghost use Rattle.std.specs.Prelude.{◌≡◌, ℕ, Some, IfOk, IfErr, OnOk, true, false};
 ghost use Rattle.wac_types_base.specs.Record.{Collection};
 ghost use Rattle.wac_types_base.specs.declared.item.ItemKind.{ItemKind};
 ghost use Rattle.wac_types_base.specs.declared.item.ValueType.{ValueType};
@@ -9,9 +9,9 @@ ghost use Rattle.wac_types_base.specs.Resolving.{IsNoAlias};
 ghost use Rattle.wac_types_fit.specs.Trees.{tree_in, Fit};
 ghost use Rattle.wac_types_fit.specs.Checking.{value_in, HoldsValues, value_tree, place_trees};
 ghost use Rattle.wac_graph_scopes.specs.declared.fault.WriteError.{WriteError};
-ghost use Rattle.wac_graph_scopes.specs.Known.{HasId, DiffersAt, KeepsKnown};
+ghost use Rattle.wac_graph_scopes.specs.Known.{HasId, KeepsKnown};
 ghost use Rattle.wac_graph_scopes.specs.Refusals.{FindsNeeded, FindsAll, LacksTree, Refused, RefusedHandle, RefusedParts, RefusedApart, RefusedPlace, RefusedThere, RefusedThereApart};
-ghost use Rattle.wac_graph_scopes.specs.Scopes.{KeepsScope, FindsOwn, FindsType, FindsTree, FindsValue, WritesValue, WritesOwn, WritesDefined, WritesType, WritesPlaces, WritesPlace, WritesEntry, WritesIndex, MakesEntry, RemembersOne, RemembersValue, NotesValue, NotesOwn};
+ghost use Rattle.wac_graph_scopes.specs.Scopes.{KeepsScope, FindsOwn, FindsType, FindsTree, FindsTreeAt, FindsValue, WritesValue, WritesOwn, WritesDefined, WritesType, WritesPlaces, WritesPlace, WritesEntry, WritesIndex, MakesEntry, RemembersOne, RemembersValue, NotesValue, NotesOwn};
 
 use crate::entry::{entry_of, func_entry_of};
 use crate::fault::WriteError;
@@ -19,7 +19,7 @@ use crate::lacking::lacks_resource;
 use crate::prints::value_of;
 use crate::resources::resource_of;
 use crate::scope::{KnownType, TypeScope};
-use std::alloc::Global;
+use std::alloc::{AllocError, Global};
 use wac_graph_bytes::{DefinedType as TypeEntry, ValueType as Written};
 use wac_types_base::replace::is_same;
 use wac_types_base::{
@@ -199,13 +199,12 @@ fn push_resolved(
 }
 
 /// Whether an item fits another. What does not stand fits nothing.
-pub fn fits_in(alloc: Global, types: &Types, a: ItemKind, b: ItemKind) -> Result<bool, WriteError>
+pub fn fits_in(alloc: Global, types: &Types, a: ItemKind, b: ItemKind) -> Result<bool, AllocError>
     ensures fits { IfOk result (λ yes. yes ≡ true → Fit types.now a types.now b) }
     ensures stands { IfOk result (λ yes. yes ≡ true → Stands types.now a) }
     ensures other_stands { IfOk result (λ yes. yes ≡ true → Stands types.now b) }
     ensures differs { IfOk result (λ yes. yes ≡ false → Stands types.now a → Stands types.now b
         → Fit types.now a types.now b → ⊥) }
-    ensures refused { IfErr result (λ e. e ≡ WriteError.Memory) }
 {
     if !types.has(a) || !types.has(b) {
         return Ok(false);
@@ -218,7 +217,7 @@ pub fn fits_in(alloc: Global, types: &Types, a: ItemKind, b: ItemKind) -> Result
     match checker.is_subtype(a, types, b, types) {
         Ok(()) => Ok(true),
         Err(SubtypeError::Mismatch { .. }) => Ok(false),
-        Err(SubtypeError::Memory) => Err(WriteError::Memory),
+        Err(SubtypeError::Memory) => Err(AllocError),
     }
 }
 
@@ -252,8 +251,7 @@ fn equal_at(
 ) -> Result<Option<u64>, WriteError>
     requires { Stands types.now (ItemKind.Value ty) }
     ensures reads { IfOk result (λ o. FindsValue types.now scope.now ty o) }
-    ensures none { IfOk result
-        (λ o. IfNone o (DiffersAt types.now scope.now.known.all.items (tree_in types.now (ItemKind.Value ty)) at)) }
+    ensures none { IfOk result (FindsTreeAt types.now scope.now ty at) }
     ensures refused { IfErr result (λ e. e ≡ WriteError.Memory) }
 {
     types.see_acyclic();
