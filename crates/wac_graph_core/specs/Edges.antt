@@ -24,9 +24,6 @@ HasAlias es i n k = Among (alias_edge i k n) es
 abbrev pub HasArgument : List Edge → ℕ → Name → ℕ → Type 0
 HasArgument es i n a = Among (argument_edge a i n) es
 
-abbrev pub HasDependency : List Edge → ℕ → ℕ → Type 0
-HasDependency es a b = Among (dependency_edge a b) es
-
 -- exactly the edges that are so
 abbrev pub AreEdges : List Edge → (Edge → Type 0) → Type 0
 AreEdges es IsSo = (d : Edge) → Among d es ↔ IsSo d

@@ -12,12 +12,12 @@ ghost use Rattle.wac_graph_core.specs.Types.{next_defined_type, next_resource, n
 
 use crate::graph::CompositionGraph;
 use semver::Version;
-use std::alloc::AllocError;
+use std::alloc::{AllocError, Global};
 use wac_types_base::{
     DefinedType, DefinedTypeId, FuncType, FuncTypeId, Interface, InterfaceId, ModuleType,
     ModuleTypeId, Resource, ResourceId, Types, World, WorldId, copy_world,
 };
-use wac_types_names::Package;
+use wac_types_names::{Adding, Package};
 
 /// The collection of a graph, lent for adding alone: no entry can be replaced through it, and ids stay right.
 #[derive(Drop)]
@@ -267,5 +267,31 @@ impl<'a> TypesMut<'a> {
         ensures same_reference { self.new.graph.ghost_name ≡ self.old.graph.ghost_name }
     {
         self.graph.copy_world_here(from, id)
+    }
+}
+
+impl Adding for TypesMut<'_> {
+    ghost collection = { λ t. t.graph.now.types };
+
+    ghost Keeps = { λ old new. Enlarges old.graph.now new.graph.now × (new.graph.ghost_name ≡ old.graph.ghost_name) };
+
+    fn add_copy(
+        &mut self,
+        _alloc: Global,
+        from: &Types,
+        id: WorldId,
+    ) -> Result<WorldId, AllocError> {
+        TypesMut::copy_world(self, from, id)
+    }
+
+    fn make_package(
+        &mut self,
+        _alloc: Global,
+        name: &str,
+        version: Option<&Version>,
+        bytes: Vec<u8>,
+        world: WorldId,
+    ) -> Result<Package, AllocError> {
+        TypesMut::add_package(self, name, version, bytes, world)
     }
 }

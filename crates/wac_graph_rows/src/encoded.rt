@@ -8,6 +8,7 @@ use wac_graph_core::CompositionGraph;
 use wac_graph_encode::Encoded;
 use wac_rows::{Row, RowTeller, Told, Words};
 use wac_types_base::ItemKind;
+use wac_types_names::copy_world;
 
 /// The number of a graph's collection of types.
 const NUMBER: u64 = 7;
@@ -74,7 +75,9 @@ fn register_composition(
     if !encoded.types.has(ItemKind::Component(encoded.world)) {
         return told.push("the world does not stand");
     }
-    let copied = graph.types_mut().copy_world(&encoded.types, encoded.world);
+    let alloc = told.alloc();
+    let mut adding = graph.types_mut();
+    let copied = copy_world(alloc, &encoded.types, encoded.world, &mut adding);
     if let Some(world) = told.given(copied) {
         let package = register(graph, told, name, encoded.bytes, world);
         named.add_package(&mut words, name, package);

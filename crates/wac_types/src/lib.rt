@@ -6,7 +6,7 @@ pub use wac_types_base::{
     DefinedTypeId, Enum, ExternKind, Flags, FuncKind, FuncType, FuncTypeId, HeapType, Interface,
     InterfaceId, ItemKind, Items, ModuleType, ModuleTypeId, NamedMap, Names, Places, PrimitiveType,
     Record, Resource, ResourceAlias, ResourceId, TargetError, Text, Type, Types, TypesMut,
-    UsedType, ValueType, Variant, World, WorldId, copy_world,
+    UsedType, ValueType, Variant, World, WorldId,
 };
 pub use wac_types_fit::{
     Cache, SubtypeCheck, SubtypeChecker, SubtypeError, TargetValidationReport,
@@ -17,7 +17,7 @@ pub use wac_types_merge::{
     AggregateError, Family, Import, TypeAggregator, aggregate_all, asks_merge_in_turn,
 };
 pub use wac_types_names::{
-    BorrowedKey, BorrowedPackageKey, NameMap, NameMapError, NameMapIntern, NameMapNoIntern,
-    Package, PackageKey, alternate_lookup_key, are_semver_compatible, compatible_names, examples,
-    one_name_a_version, order_of_insertion, same_key,
+    Adding, BorrowedKey, BorrowedPackageKey, NameMap, NameMapError, NameMapIntern, NameMapNoIntern,
+    Package, PackageKey, alternate_lookup_key, are_semver_compatible, compatible_names, copy_world,
+    examples, one_name_a_version, order_of_insertion, same_key,
 };

@@ -1,6 +1,7 @@
 //! Names on version tracks, packages and their keys.
 #![tactic(auto)]
 
+mod adding;
 mod copies;
 mod definitions;
 mod laws;
@@ -9,6 +10,7 @@ pub mod package;
 mod spelling;
 mod track;
 
+pub use adding::{Adding, copy_world};
 pub use laws::{compatible_names, examples, one_name_a_version, order_of_insertion};
 pub use names::{
     NameMap, NameMapError, NameMapIntern, NameMapNoIntern, alternate_lookup_key,

@@ -7,6 +7,7 @@ ghost use Rattle.wac_types_names.specs.Keys.{Key, owned_key, borrowed_key, packa
 ghost use Rattle.wac_types_names.specs.Packaged.{packaged_under};
 ghost use Rattle.wac_types_names.specs.Packages.{DefinitionsOf, AddsInterfaceOf};
 
+use crate::adding::Adding;
 use crate::copies::{copy_version, interface_of, items_under};
 use crate::definitions::definitions_of;
 use semver::Version;
@@ -48,44 +49,67 @@ impl Model for Package {
     ghost view = { packaged };
 }
 
+/// A package of a world of a collection that stands by itself.
+pub(crate) fn package_of(
+    alloc: Global,
+    name: &str,
+    version: Option<&Version>,
+    bytes: Vec<u8>,
+    types: &mut TypesMut<'_>,
+    world: WorldId,
+) -> Result<Package, AllocError>
+    requires { Stands types.old.types.now (ItemKind.Component world) }
+    ensures name { IfOk result (λ p. p.name ≡ name.now) }
+    ensures version { IfOk result (λ p. p.version ≡ option_map parts_of (option_copied version.entry)) }
+    ensures bytes { IfOk result (λ p. p.bytes ≡ bytes.items) }
+    ensures ty { IfOk result (λ p. p.ty ≡ world) }
+    ensures instance_type { IfOk result
+        (λ p. AddsInterfaceOf types.old.types.now types.new.types.now world p.instance_type) }
+    ensures definitions { IfOk result (λ p. DefinitionsOf types.old.types.now world p.definitions) }
+    ensures err { OnErr result (types.new.types.now ≡ types.old.types.now) }
+    ensures grows { Grows types.old.types.now types.new.types.now }
+    ensures same_reference { types.new.types.ghost_name ≡ types.old.types.ghost_name }
+{
+    types.types().see_acyclic();
+    let definitions = definitions_of(alloc, types.types(), world)?;
+    let name = String::from_str(alloc, name)?;
+    let version = copy_version(version)?;
+    let interface = interface_of(alloc, types.types(), world)?;
+    let instance_type = types.add_interface(interface)?;
+    Ok(Package {
+        name,
+        version,
+        bytes,
+        ty: world,
+        instance_type,
+        definitions,
+    })
+}
+
 impl Package {
     /// A package of a world, under a name and perhaps a version. The interface of its instances is added to the
     /// collection: without identifier, with the world's uses and exports.
-    pub fn from_world(
+    pub fn from_world<T: Adding>(
         alloc: Global,
         name: &str,
         version: Option<&Version>,
         bytes: Vec<u8>,
-        types: &mut TypesMut<'_>,
+        types: &mut T,
         world: WorldId,
     ) -> Result<Package, AllocError>
-        requires { Stands types.old.types.now (ItemKind.Component world) }
+        requires { Stands (T.collection types.old) (ItemKind.Component world) }
         ensures name { IfOk result (λ p. p.name ≡ name.now) }
         ensures version { IfOk result (λ p. p.version ≡ option_map parts_of (option_copied version.entry)) }
         ensures bytes { IfOk result (λ p. p.bytes ≡ bytes.items) }
         ensures ty { IfOk result (λ p. p.ty ≡ world) }
         ensures instance_type { IfOk result
-            (λ p. AddsInterfaceOf types.old.types.now types.new.types.now world p.instance_type) }
-        ensures definitions { IfOk result (λ p. DefinitionsOf types.old.types.now world p.definitions) }
-
-        ensures err { OnErr result (types.new.types.now ≡ types.old.types.now) }
-        ensures grows { Grows types.old.types.now types.new.types.now }
-        ensures same_reference { types.new.types.ghost_name ≡ types.old.types.ghost_name }
+            (λ p. AddsInterfaceOf (T.collection types.old) (T.collection types.new) world p.instance_type) }
+        ensures definitions { IfOk result (λ p. DefinitionsOf (T.collection types.old) world p.definitions) }
+        ensures err { OnErr result (T.collection types.new ≡ T.collection types.old) }
+        ensures grows { Grows (T.collection types.old) (T.collection types.new) }
+        ensures keeps { T.Keeps types.old types.new }
     {
-        types.types().see_acyclic();
-        let definitions = definitions_of(alloc, types.types(), world)?;
-        let name = String::from_str(alloc, name)?;
-        let version = copy_version(version)?;
-        let interface = interface_of(alloc, types.types(), world)?;
-        let instance_type = types.add_interface(interface)?;
-        Ok(Package {
-            name,
-            version,
-            bytes,
-            ty: world,
-            instance_type,
-            definitions,
-        })
+        types.make_package(alloc, name, version, bytes, world)
     }
 
     /// The same package of a collection that is copied under another number: each id has that number.

@@ -10,6 +10,7 @@ use wac_graph_core::{
 };
 use wac_rows::{Told, Words};
 use wac_types_base::{ItemKind, NamedMap, WorldId};
+use wac_types_names::Package;
 
 /// The bytes of `p:p`: it imports `f: func()`, and exports it as `g`.
 pub const PACKAGE: [u8; 32] = [
@@ -123,8 +124,13 @@ pub fn register(
     if !graph.types().has(ItemKind::Component(world)) {
         return refusal.refuse("the world does not stand");
     }
-    match graph.types_mut().add_package(name, None, bytes, world) {
-        Ok(package) => refusal.given(graph.register_package(package)),
+    let alloc = refusal.alloc();
+    let mut adding = graph.types_mut();
+    match Package::from_world(alloc, name, None, bytes, &mut adding, world) {
+        Ok(package) if graph.package_stands(&package) => {
+            refusal.given(graph.register_package(package))
+        }
+        Ok(_) => refusal.refuse("the package does not stand"),
         Err(fault) => {
             refusal.show(&fault);
             None

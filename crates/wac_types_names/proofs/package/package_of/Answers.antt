@@ -1,7 +1,7 @@
 use Rattle.std.proofs.Common.{subst}
 use Rattle.wac_types_base.specs.Collection.{IsAcyclic}
 use Rattle.wac_types_base.proofs.Adding.{Grows-refl}
-use Rattle.wac_types_names.proofs.package.Package.from_world.Goals as goal
+use Rattle.wac_types_names.proofs.package.package_of.Goals as goal
 
 pub returns-in_err-interface-clause-grows : goal.returns-in_err-interface-clause-grows
 returns-in_err-interface-clause-grows c = Grows-refl c.args.types.now.types.now (subst IsAcyclic c.types.ensures c.see_acyclic.ensures)
