@@ -6,20 +6,11 @@ ghost use Rattle.wac_graph_causes.specs.Refusals.{refusal_shown};
 
 use std::alloc::{AllocError, AllocFailed};
 use std::fmt;
-use thiserror::Error;
 use wac_graph_asks::OuterError;
 use wac_graph_core::NodeId;
+use wac_names::ValidationFault;
 use wac_types_merge::AggregateError;
 use wac_types_names::PackageKey;
-
-/// Two names that are equal, or that differ in the case of letters alone.
-#[derive(Debug, Drop, Error)]
-pub enum ValidationFault {
-    #[error("the imports `{0}` and `{1}` have names that are too alike")]
-    ImportNames(String, String),
-    #[error("the exports `{0}` and `{1}` have names that are too alike")]
-    ExportNames(String, String),
-}
 
 /// Why a graph is not encoded.
 #[derive(Debug, Drop)]

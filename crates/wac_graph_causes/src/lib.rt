@@ -13,4 +13,4 @@ mod spelling;
 mod standing;
 pub mod writable;
 
-pub use errors::{EncodeError, ValidationFault};
+pub use errors::EncodeError;

@@ -21,4 +21,5 @@ pub use laws::finished_entries_are_wired;
 pub use options::{EncodeOptions, Encoded};
 pub use wac_graph_asks::{asks_once_are_all_asks, first_name_of_a_definition, graphs_are_composed};
 pub use wac_graph_bytes::Processor;
-pub use wac_graph_causes::{EncodeError, ValidationFault};
+pub use wac_graph_causes::EncodeError;
+pub use wac_names::ValidationFault;

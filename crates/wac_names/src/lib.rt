@@ -4,5 +4,5 @@
 mod error;
 mod names;
 
-pub use error::NameError;
+pub use error::{NameError, ValidationFault};
 pub use names::{NameKind, component_name};

@@ -19,7 +19,7 @@ use Rattle.wac_composition.specs.Renaming.{cause_renamed}
 use Rattle.wac_composition.proofs.Against.{causes_stand}
 use Rattle.wac_graph_asks.specs.Graphs.{composition_of}
 use Rattle.wac_graph_causes.specs.declared.errors.EncodeError.{EncodeError}
-use Rattle.wac_graph_causes.specs.declared.errors.ValidationFault.{ValidationFault}
+use Rattle.wac_names.specs.declared.error.ValidationFault.{ValidationFault}
 use Rattle.wac_graph_causes.specs.Implicit.{IsKeyOf}
 use Rattle.wac_graph_encode.specs.declared.options.EncodeOptions.{EncodeOptions}
 use Rattle.wac_graph_encode.specs.Refused as graph

@@ -1,19 +1,17 @@
 -- Why a resolved document is not encoded: the first cause that stands against what it says, with its places. And against one
 -- that is encoded none stands.
 use Rattle.std.specs.Prelude.{◌≡◌, ◌⊎◌, Bool, List, Option, Some, None, Ok, option_map, string_bytes}
-use Rattle.wac_types_base.specs.declared.item.ExternKind.{ExternKind}
 use Rattle.wac_types_base.specs.Stated.{Stated}
 use Rattle.wac_types_names.specs.Keys.{Key, owned_key}
 use Rattle.wac_graph_core.specs.Graph.{Graph}
 use Rattle.wac_composition.specs.Conflicts.{first_cause, name_cause}
 use Rattle.wac_graph_causes.specs.declared.errors.EncodeError.{EncodeError}
-use Rattle.wac_graph_causes.specs.declared.errors.ValidationFault.{ValidationFault}
 use Rattle.wac_graph_encode.specs.declared.options.EncodeOptions.{EncodeOptions}
 use Rattle.wac_graph_encode.specs.Refused.{HasLargeProcessor}
 use Rattle.wac_parser_tree.specs.Trees as t
 use Rattle.wac_parser_refusals.specs.declared.error.Error.{Error}
 use Rattle.wac_parser_refusals.specs.Causes.{Cause, Fault}
-use Rattle.wac_parser_refusals.specs.Views.{anywhere, at_place, cause_of}
+use Rattle.wac_parser_refusals.specs.Views.{alike_fault, anywhere, at_place, cause_of}
 use Rattle.wac_parser_declare.specs.Packages.{Content}
 use Rattle.wac_parser_resolve.specs.Ascribed.{cause_said, composition}
 use Rattle.wac_parser_resolve.specs.Ascribing.{State}
@@ -23,12 +21,6 @@ use Rattle.wac_parser_resolve.specs.Resolved.{Places, asker_place, import_place}
 use Rattle.wac_parser_encode.specs.Sizes.{IsPastSize}
 
 -- ---- the fault that is told
-
-abbrev pub alike_fault : ValidationFault → Option Cause
-alike_fault (ValidationFault.ImportNames m n) =
-    anywhere (Fault.ValidationFailure ExternKind.Import (string_bytes m) (string_bytes n))
-alike_fault (ValidationFault.ExportNames m n) =
-    anywhere (Fault.ValidationFailure ExternKind.Export (string_bytes m) (string_bytes n))
 
 -- a refusal of a graph, where its nodes stand at these places; no graph has a cycle
 abbrev pub fault_in : Places → EncodeError → Option Cause
@@ -40,7 +32,7 @@ fault_in at (EncodeError.ImportTypeMergeConflict n first second source) =
     at_place (Fault.InstantiationArgMergeFailure (string_bytes n) (asker_place at first)) (asker_place at second)
 fault_in at (EncodeError.TypeCannotBeWritten n) = anywhere (Fault.TypeCannotBeWritten (string_bytes n))
 fault_in at EncodeError.TooLarge = anywhere Fault.TooLarge
-fault_in at (EncodeError.ValidationFailure fault) = alike_fault fault
+fault_in at (EncodeError.ValidationFailure fault) = anywhere (alike_fault fault)
 fault_in at (EncodeError.GraphContainsCycle node) = None
 fault_in at EncodeError.Memory = None
 

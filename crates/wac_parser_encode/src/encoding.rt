@@ -9,38 +9,19 @@ ghost use Rattle.wac_parser_refusals.specs.Views.{cause_of};
 ghost use Rattle.wac_parser_resolve.specs.Resolved.{Places, graph_of, places_of};
 ghost use Rattle.wac_parser_encode.specs.Processing.{IsProcessed};
 ghost use Rattle.wac_parser_encode.specs.Meaning.{HasResolvedWorld, ImportsResolved, MeansResolved};
-ghost use Rattle.wac_parser_encode.specs.Refused.{CanBeEncoded, RefusesResolved, TellsAnywhere, alike_fault, fault_in};
+ghost use Rattle.wac_parser_encode.specs.Refused.{CanBeEncoded, RefusesResolved, TellsAnywhere, fault_in};
 
 use std::alloc::{AllocError, Global};
 use wac_graph_bytes::Processor;
 use wac_graph_core::CompositionGraph;
-use wac_graph_encode::{EncodeError, EncodeGraph, EncodeOptions, Encoded, ValidationFault};
+use wac_graph_encode::{EncodeError, EncodeGraph, EncodeOptions, Encoded};
 use wac_parser_refusals::{Error, ResolutionResult};
 use wac_parser_resolve::Resolved;
-use wac_types_base::ExternKind;
 
 /// What is said to have written a component where nothing else is said.
 const PROCESSOR: &str = "wac-parser";
 
 const VERSION: &str = "0.11.0";
-
-/// Two names that are too much alike.
-fn alike(fault: ValidationFault) -> Error
-    ensures { cause_of result ≡ alike_fault fault }
-{
-    match fault {
-        ValidationFault::ImportNames(first, second) => Error::ValidationFailure {
-            kind: ExternKind::Import,
-            first,
-            second,
-        },
-        ValidationFault::ExportNames(first, second) => Error::ValidationFailure {
-            kind: ExternKind::Export,
-            first,
-            second,
-        },
-    }
-}
 
 /// The document's fault that a refusal of its graph is. No graph has a cycle.
 fn fault_of<D>(resolution: &Resolved<'_, D>, fault: EncodeError) -> Error
@@ -81,7 +62,7 @@ fn fault_of<D>(resolution: &Resolved<'_, D>, fault: EncodeError) -> Error
         },
         EncodeError::TypeCannotBeWritten { name } => Error::TypeCannotBeWritten { name },
         EncodeError::TooLarge => Error::TooLarge,
-        EncodeError::ValidationFailure { source } => alike(source),
+        EncodeError::ValidationFailure { source } => Error::ValidationFailure { source },
         EncodeError::GraphContainsCycle { .. } => unreachable!(),
         EncodeError::Memory => Error::Memory,
     }

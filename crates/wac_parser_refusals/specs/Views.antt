@@ -1,5 +1,7 @@
 -- What an error says, without where its texts lie in memory.
 use Rattle.std.specs.Prelude.{◌≡◌, Option, Some, None, is_some, option_map, string_bytes}
+use Rattle.wac_names.specs.declared.error.ValidationFault.{ValidationFault}
+use Rattle.wac_types_base.specs.declared.item.ExternKind.{ExternKind}
 use Rattle.wac_types_names.specs.Keys.{owned_key}
 use Rattle.wac_parser_lexer.specs.declared.span.SourceSpan.{SourceSpan as Span}
 use Rattle.wac_parser_refusals.specs.Causes.{Cause, Fault}
@@ -15,6 +17,11 @@ maybe_at f s = Some (record { fault = f; span = s })
 
 abbrev pub anywhere : Fault → Option Cause
 anywhere f = Some (record { fault = f; span = None })
+
+-- two names that are too alike
+abbrev pub alike_fault : ValidationFault → Fault
+alike_fault (ValidationFault.ImportNames m n) = Fault.ValidationFailure ExternKind.Import (string_bytes m) (string_bytes n)
+alike_fault (ValidationFault.ExportNames m n) = Fault.ValidationFailure ExternKind.Export (string_bytes m) (string_bytes n)
 
 -- the cause that an error names; want of memory names none
 abbrev pub cause_of : Error → Option Cause
@@ -58,8 +65,7 @@ cause_of (error.MissingTargetExport name kind world span) =
     at_place (Fault.MissingTargetExport (string_bytes name) kind.now (string_bytes world)) span
 cause_of (error.TargetMismatch kind name world span source) =
     maybe_at (Fault.TargetMismatch kind (string_bytes name) (string_bytes world)) span
-cause_of (error.ValidationFailure kind first second) =
-    anywhere (Fault.ValidationFailure kind (string_bytes first) (string_bytes second))
+cause_of (error.ValidationFailure source) = anywhere (alike_fault source)
 cause_of (error.TypeCannotBeWritten name) = anywhere (Fault.TypeCannotBeWritten (string_bytes name))
 cause_of error.TooLarge = anywhere Fault.TooLarge
 cause_of (error.NotFuncOrInterface name kind span) = at_place (Fault.NotFuncOrInterface (string_bytes name) kind.now) span

@@ -6,7 +6,7 @@ ghost use Rattle.wac_parser_refusals.specs.Views.{cause_of};
 
 use std::alloc::{AllocError, AllocFailed};
 use std::fmt;
-use wac_names::NameError;
+use wac_names::{NameError, ValidationFault};
 use wac_parser_lexer::SourceSpan;
 use wac_types_base::{ExternKind, FuncKind};
 use wac_types_fit::SubtypeError;
@@ -280,12 +280,8 @@ pub enum Error {
     },
     /// Two names of imports, or of exports, are too much alike.
     ValidationFailure {
-        /// What it is.
-        kind: ExternKind,
-        /// One name.
-        first: String,
-        /// The other name.
-        second: String,
+        /// Which two.
+        source: ValidationFault,
     },
     /// A type has no written form.
     TypeCannotBeWritten {
