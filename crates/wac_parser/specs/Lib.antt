@@ -1,3 +1,4 @@
+pub mod PlainFaults
 pub use Rattle.wac_parser_lexer.specs.Words
 pub use Rattle.wac_parser_lexer.specs.Longest
 pub use Rattle.wac_parser_lexer.specs.Spellings

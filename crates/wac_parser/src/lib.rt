@@ -1,6 +1,8 @@
 //! The language: tokens, trees, parsers, printing: the public crate over its parts.
 #![tactic(auto)]
 
+mod plain;
+
 pub use wac_parser_lexer as lexer;
 pub use wac_parser_print::{ByteSink, DocumentPrinter, DocumentValue, PrintError};
 pub use wac_parser_read::{
@@ -42,6 +44,7 @@ pub mod resolution {
 
 /// What holds of all sources, documents and texts.
 pub mod laws {
+    pub use crate::plain::plain_faults_leave_no_tree;
     pub use wac_parser_grammar::{
         deep_faults_are_deep, document_faults_stand, documents_are_read, documents_are_their_forms,
         documents_have_forms, faults_stand, forms_are_taken, parsed_paths_stand, rules_are_exact,
