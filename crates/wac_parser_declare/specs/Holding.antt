@@ -67,9 +67,6 @@ AreNamedValues c = AreEntries (ValueStands c) (stated_value c)
 abbrev pub AreCases : Collection → List (Name × Option Stated) → List (Name × Option ValueType) → Type 0
 AreCases c = AreEntries (StandsIf c) (stated_if c)
 
-abbrev pub AreItems : Collection → List (Name × Stated) → List (Name × ItemKind) → Type 0
-AreItems c = AreEntries (Stands c) (stated_of c)
-
 abbrev pub ItemsStand : Collection → List (Name × ItemKind) → Type 0
 ItemsStand c = EachStands (Stands c)
 
