@@ -1,13 +1,16 @@
 -- Causes of stops, one from another.
-use Rattle.std.proofs.Common.{◌≡◌, ◌⊎◌, ℕ, Bool, List, [], slice_get, take, length, Option, Some, Result, Ok, Err, IfOk, IfErr, IsErrAnd, String, Vec, Global, string_bytes, inl, inr, refl, sym, ap, subst, ◌∙◌}
+use Rattle.std.proofs.Common.{◌≡◌, ◌≢◌, ◌⊎◌, ◌↔◌, ℕ, Bool, List, [], slice_get, take, length, Option, Some, None, Result, Ok, Err, IfOk, IfErr, OnOk, OnErr, IsErrAnd, IsErrOf, String, Vec, Global, string_bytes, inl, inr, refl, sym, ap, subst, ◌∙◌, arith}
+use Rattle.std.specs.Io.KnownBytes.{Appends}
 use Rattle.std.specs.Iterator.{Yields}
 use Rattle.std.proofs.lemmas.List.{map-id}
 use Rattle.std.proofs.lemmas.Iterator.{YieldsList}
 use Rattle.std.proofs.lemmas.Iterator.Consumers.{YieldsList-so_far, YieldsList-turn}
 use Rattle.wac_types_base.proofs.Loops.{get-place}
 use Rattle.wac_types_base.specs.Entries.{Name}
+use Rattle.wac_types_names.specs.Keys as names
 use Rattle.wac_graph_core.specs.Graph.{Graph}
 use Rattle.wac_manifest.specs.declared.manifest.Component.{Component}
+use Rattle.wac_manifest.specs.declared.manifest.Key.{Key}
 use Rattle.wac_manifest.specs.declared.manifest.Source.{Source}
 use Rattle.wac_parser_grammar.specs.Documents.{document}
 use Rattle.wac_parser_grammar.specs.Reads.{read_source}
@@ -17,65 +20,51 @@ use Rattle.wac_parser_tree.specs.declared.document.Document.{Document as Tree}
 use Rattle.wac_parser_tree.specs.Trees.{Document}
 use Rattle.wac_parser_tree.specs.Views.{view_document}
 use Rattle.wac_parser_lexer.specs.declared.span.SourceSpan.{SourceSpan}
-use Rattle.wac_streams.specs.Calls.{AppendsPrefix}
+use Rattle.wac_streams.specs.Calls.{AppendsPrefix, Calls, CallsAtMost, FailedOnce, NoneFailed}
 use Rattle.wac_texts.specs.declared.declared.Declares.{Declares}
 use Rattle.wac_texts.specs.Declarations.{declared_in}
 use Rattle.wac_texts.specs.Files.{Stored}
-use Rattle.wac_workspace.specs.Composing.{IsDocument}
-use Rattle.wac_workspace.specs.Packages.{Held}
+use Rattle.wac_workspace.specs.declared.entries.Entry.{Entry}
+use Rattle.wac_workspace.specs.declared.errors.AddPackageError.{AddPackageError}
+use Rattle.wac_workspace.specs.declared.output.Output.{Output}
+use Rattle.wac_workspace.specs.Composing.{ComposesSource, IsDocument, greatest}
+use Rattle.wac_workspace.specs.Packages.{Held, HasBytes, HasKey}
 use Rattle.wac_workspace.specs.Resolving.{IsGraphOf}
-use Rattle.wac.specs.declared.components.Added.{Added}
 use Rattle.wac.specs.declared.stop.Stop.{Stop}
-use Rattle.wac.specs.Adding.{AddsComponents, IsBytesOf, added_key, component_key}
-use Rattle.wac.specs.Loading.{IsTextOf, StopsFor}
-use Rattle.wac.specs.Refusing.{EndsFor, GivesNoWorld, IsNotAdded, IsNotRead, IsStopped, IsTaken, IsUnput, ReadsNone, StopsAdding, StopsComposing}
-use Rattle.wac.specs.Running.{Outside, PutsSources}
-use Rattle.wac.specs.Telling.{Tells, TellsLine, refused_text, told_text}
+use Rattle.wac.specs.Adding.{AddsComponents, IsBytesOf, component_key}
+use Rattle.wac.specs.Loading.{Ends, IsTextOf, StopsFor}
+use Rattle.wac.specs.Refusing.{DoesNot, FailsToPut, FailsToWriteLine, GivesNone, HasNoPlug, IsNotAdded, IsNotRead, IsStopped, IsTaken, IsUnput, ReadsNone, StopsAdding, StopsAt, StopsComposing}
+use Rattle.wac.specs.Running.{IsTextAt, Outside, PutsSources, line_of, outside}
+use Rattle.wac.specs.Telling.{Errors, Tells, TellsLine, Writes, refused_text}
 
 pub stops_map : {P Q : Type 0} (s : Stop) → (P → Q) → StopsFor P s → StopsFor Q s
 stops_map (Stop.Refused text span) more h = more h
 stops_map Stop.Unwritten more h = absurd h
 stops_map Stop.Memory more h = tt
 
--- nothing more is said where a writer may have failed
-pub ends_map : {P Q : Type 0} (s : Stop) → (P → Q) → EndsFor P s → EndsFor Q s
-ends_map (Stop.Refused text span) more h = more h
-ends_map Stop.Unwritten more h = tt
-ends_map Stop.Memory more h = tt
-
-pub ends_for : {P Q : Type 0} (s : Stop) → (P → Q) → StopsFor P s → EndsFor Q s
-ends_for (Stop.Refused text span) more h = more h
-ends_for Stop.Unwritten more h = absurd h
-ends_for Stop.Memory more h = tt
-
 -- so of an answer that is refused
 pub err_stops : {T P Q : Type 0} (r : Result T Stop) → (P → Q) → IfErr r (StopsFor P) → IfErr r (StopsFor Q)
 err_stops (Ok x) more h = tt
 err_stops (Err s) more h = stops_map s more h
-
-pub err_ends : {T P Q : Type 0} (r : Result T Stop) → (P → Q) → IfErr r (EndsFor P) → IfErr r (EndsFor Q)
-err_ends (Ok x) more h = tt
-err_ends (Err s) more h = ends_map s more h
 
 -- so of what a `?` hands on
 pub again_stops : {T P Q : Type 0} (r : Result T Stop) (s : Stop) → IsErrAnd r (λ e. e ≡ s) → (P → Q) → StopsFor P s → IfErr r (StopsFor Q)
 again_stops (Ok x) s is more h = absurd is
 again_stops {Q = Q} (Err e) s is more h = subst (StopsFor Q) (sym is) (stops_map s more h)
 
-pub again_ends : {T P Q : Type 0} (r : Result T Stop) (s : Stop) → IsErrAnd r (λ e. e ≡ s) → (P → Q) → EndsFor P s → IfErr r (EndsFor Q)
-again_ends (Ok x) s is more h = absurd is
-again_ends {Q = Q} (Err e) s is more h = subst (EndsFor Q) (sym is) (ends_map s more h)
+-- any fact of a stop is one of what a `?` hands on
+pub again : {T : Type 0} (P : Stop → Type 0) (r : Result T Stop) (s : Stop) → IsErrAnd r (λ e. e ≡ s) → P s → IfErr r P
+again P (Ok x) s is h = absurd is
+again P (Err e) s is h = subst P (sym is) h
 
-pub again_ends_for : {T P Q : Type 0} (r : Result T Stop) (s : Stop) → IsErrAnd r (λ e. e ≡ s) → (P → Q) → StopsFor P s → IfErr r (EndsFor Q)
-again_ends_for (Ok x) s is more h = absurd is
-again_ends_for {Q = Q} (Err e) s is more h = subst (EndsFor Q) (sym is) (ends_for s more h)
+pub err_more : {T : Type 0} (P Q : Stop → Type 0) (r : Result T Stop) → ((s : Stop) → P s → Q s) → IfErr r P → IfErr r Q
+err_more P Q (Ok x) more h = tt
+err_more P Q (Err s) more h = more s h
 
--- with a cause that stands whatever is told
-pub ends_known : {T Q : Type 0} (r : Result T Stop) → Q → IfErr r (EndsFor Q)
-ends_known (Ok x) q = tt
-ends_known (Err (Stop.Refused text span)) q = q
-ends_known (Err Stop.Unwritten) q = tt
-ends_known (Err Stop.Memory) q = tt
+pub ends_map : {C U M D V N : Type 0} (s : Stop) → (C → D) → (U → V) → (M → N) → Ends C U M s → Ends D V N s
+ends_map (Stop.Refused text span) c u m h = c h
+ends_map Stop.Unwritten c u m h = u h
+ends_map Stop.Memory c u m h = m h
 
 -- what a walk over a list has yielded stands before the next
 pub walked : {S A : Type 0} {steps : S → Option A → S → Type 0} {s : S} {all : List A} → YieldsList steps (λ y. y) s all → (xs : List A) (t : S) → Yields steps s xs t → (r : Option A) (u : S) (x : A) → r ≡ Some x → steps t r u
@@ -86,59 +75,112 @@ walked {all = all} list xs t yielded r u x is next =
 
 -- ---- components
 
--- a world that the graph of a text does not give is one that the text lacks
-pub graph_lacks : {T X : Type 0} (view : T → X) (rule : Rule X) (said declares : T → Document) (text : List ℕ) (x : Added) (w : Held) (t : T) (g : Graph) (d : Declares) → read_source rule text ≡ Ok (view t)
-    → IsGraphOf (resolved (said t) []) g → d ≡ declared_in (declares t) (string_bytes x.select) → GivesNoWorld g d (string_bytes x.select) ⊎ IsTaken w (added_key x) x.bytes.items
-    → ReadsNone view rule said declares text (string_bytes x.select) ⊎ IsTaken w (added_key x) x.bytes.items
-graph_lacks view rule said declares text x w t g d read holds same (inl lacks) = inl (inr (t, read, inr (g, holds, subst (λ (e : Declares). GivesNoWorld g e (string_bytes x.select)) same lacks)))
-graph_lacks view rule said declares text x w t g d read holds same (inr taken) = inr taken
+-- the first of what is taken, by why it is not added
+pub taken_first : {T : Type 0} (w : Held) (k key : names.Key) (bytes : List ℕ) (e : AddPackageError) → k ≡ key → (e ≢ AddPackageError.Memory) → IsErrOf {T = T} (Err e) AddPackageError.KeyTaken ↔ HasKey w.packages k
+    → (IsErrOf {T = T} (Err e) AddPackageError.BytesTaken → HasBytes w.packages bytes) → (IsErrOf {T = T} (Err e) AddPackageError.NumbersExhausted → (w.next ≡ greatest) × (HasBytes w.packages bytes → ⊥)) → IsTaken w key bytes
+taken_first w k key bytes AddPackageError.KeyTaken is other by_key by_bytes last = inl (subst (HasKey w.packages) is (by_key.0 refl))
+taken_first w k key bytes AddPackageError.BytesTaken is other by_key by_bytes last = inr (inl (λ has. absurd (cc (by_key.1 (subst (HasKey w.packages) (sym is) has))), by_bytes refl))
+taken_first w k key bytes AddPackageError.NumbersExhausted is other by_key by_bytes last = inr (inr (λ has. absurd (cc (by_key.1 (subst (HasKey w.packages) (sym is) has))), (last refl).1, (last refl).0))
+taken_first w k key bytes AddPackageError.Memory is other by_key by_bytes last = absurd (other refl)
 
--- what the text of a component keeps from being added keeps the component from it
+-- what the graph of a text does not give, the text does not
+pub graph_lacks : {T X : Type 0} (view : T → X) (rule : Rule X) (said declares : T → Document) (text : List ℕ) (name : Name) (taken : Type 0) (t : T) (g : Graph) (d : Declares) → read_source rule text ≡ Ok (view t)
+    → IsGraphOf (resolved (said t) []) g → d ≡ declared_in (declares t) name → GivesNone g d name taken → ReadsNone view rule said declares text name taken
+graph_lacks view rule said declares text name taken t g d read holds same none = inr (t, read, inr (g, holds, subst (λ (e : Declares). GivesNone g e name taken) same none))
+
+-- what the text of a component does not give, the component lacks
 pub component_lacks : (files : Option Stored) (x : Component) (bytes : Vec ℕ Global) (text shown : List ℕ) (w : Held) → IsBytesOf files x.bytes bytes.items → IsTextOf files x.world text → shown ≡ text
-    → ReadsNone {T = Tree} view_document document view_document view_document shown (string_bytes x.select) ⊎ IsTaken w (component_key x) bytes.items → IsNotAdded files x w
-component_lacks files x bytes text shown w given stated same (inl (inl unread)) = inr (inr (inl (text, stated, inl (subst (IsNotRead document) same unread))))
-component_lacks files x bytes text shown w given stated same (inl (inr (t, read, lacks))) = inr (inr (inl (text, stated, inr (view_document t, subst (λ (s : List ℕ). IsDocument s (view_document t)) same read, lacks))))
-component_lacks files x bytes text shown w given stated same (inr taken) = inr (inr (inr (bytes.items, given, taken)))
+    → ReadsNone {T = Tree} view_document document view_document view_document shown (string_bytes x.select) (IsTaken w (component_key x) bytes.items) → IsNotAdded files x w
+component_lacks files x bytes text shown w given stated same (inl unread) = inr (bytes.items, given, inr (text, stated, inl (subst (IsNotRead document) same unread)))
+component_lacks files x bytes text shown w given stated same (inr (t, read, lacks)) =
+    inr (bytes.items, given, inr (text, stated, inr (view_document t, subst (λ (s : List ℕ). IsDocument s (view_document t)) same read, lacks)))
 
 -- the component that comes next stops it
-pub adding_stops : (files : Option Stored) (all : List Component) (w between : Held) (done : List Component) (x : Component) → (done ≡ take (length done) all) × (slice_get all (length done) ≡ Some x) → AddsComponents files done w.packages between.packages
+pub adding_stops : (files : Option Stored) (all : List Component) (w between : Held) (done : List Component) (x : Component) → (done ≡ take (length done) all) × (slice_get all (length done) ≡ Some x) → AddsComponents files done w between
     → IsNotAdded files x between → StopsAdding files all w
 adding_stops files all w between done x at adds cause = record {
   at = length done;
   stopped = x;
   there = at.1;
   between = between;
-  adds = subst (λ (xs : List Component). AddsComponents files xs w.packages between.packages) at.0 adds;
+  adds = subst (λ (xs : List Component). AddsComponents files xs w between) at.0 adds;
   cause = cause;
 }
 
 -- ---- sources
 
 -- what is not put of a text, by its bytes and its path
-pub unput_at : (define : Bool) (path at : Option Name) (text source : List ℕ) (w : Held) → path ≡ at → text ≡ source → IsUnput define path text w → IsUnput define at source w
-unput_at define path at text source w p t unput = subst (λ (x : Option Name). IsUnput define x source w) p (subst (λ (x : List ℕ). IsUnput define path x w) t unput)
+pub unput_at : (define : Bool) (path at : Option Name) (text source : List ℕ) (w : Held) (before after : Outside) (stop : Stop) → path ≡ at → text ≡ source → IsUnput define path text w before after stop → IsUnput define at source w before after stop
+unput_at define path at text source w before after stop p t unput =
+    subst (λ (x : Option Name). IsUnput define x source w before after stop) p (subst (λ (x : List ℕ). IsUnput define path x w before after stop) t unput)
 
 -- the source that comes next stops it
-pub stops_at : (define : Bool) (all : List Source) (w mid : Held) (before between : Outside) (done : List Source) (s : Source) → (done ≡ take (length done) all) × (slice_get all (length done) ≡ Some s) → PutsSources define done w mid before between
-    → IsStopped define s mid between.files → StopsComposing define all w before
-stops_at define all w mid before between done s at puts cause = record {
+pub stops_at : (define : Bool) (all : List Source) (w mid : Held) (before between after : Outside) (done : List Source) (s : Source) (stop : Stop) → (done ≡ take (length done) all) × (slice_get all (length done) ≡ Some s) → PutsSources define done w mid before between
+    → IsStopped define s mid between after stop → StopsComposing define all w before after stop
+stops_at define all w mid before between after done s stop at puts stops = record {
   at = length done;
   stopped = s;
   there = at.1;
   mid = mid;
   between = between;
   puts = subst (λ (xs : List Source). PutsSources define xs w mid before between) at.0 puts;
-  cause = cause;
+  stops = stops;
 }
+
+-- a writer that failed leaves a front of the line
+pub unwritten : {T : Type 0} (r : Result T Stop) (line shown : List ℕ) (had has : Option (List ℕ)) (calls called : Option Calls) → shown ≡ line → OnErr r (AppendsPrefix had has shown) → OnErr r (FailedOnce calls called)
+    → IfErr r (λ s. s ≡ Stop.Unwritten) → IfErr r (FailsToWriteLine line had has calls called)
+unwritten (Ok x) line shown had has calls called same front failed is = tt
+unwritten (Err s) line shown had has calls called same front failed is =
+    subst (FailsToWriteLine line had has calls called) (sym is) (subst (AppendsPrefix had has) same front, failed)
+
+-- a line that is not printed, where no file was to be written, and one behind a file
+module _ (define : Bool) (source : List ℕ) (old new : Held) (o : Output) (composed : ComposesSource old new source define o) where
+  pub unput_here : (path : Option Name) → path ≡ None → (files : Option Stored) (failures : Option ℕ) (had has : Option (List ℕ)) (calls called : Option Calls) (stop : Stop)
+      → FailsToWriteLine (line_of None o) had has calls called stop → IsUnput define path source old (outside files failures had calls) (outside files failures has called) stop
+  unput_here path none files failures had has calls called stop h =
+      subst (λ p. IsUnput define p source old (outside files failures had calls) (outside files failures has called) stop) (sym none)
+      (inr (record {
+        new = new;
+        output = o;
+        composed = composed;
+        fails = ends_map stop (λ x. absurd x) (λ x. record { kept = refl; failures = refl; front = x.0; failed = x.1 }) (λ x. record { others = refl; printed = x.0; calls = x.1 }) h;
+      }))
+
+  pub unput_there : (path : Option Name) (at : Name) → path ≡ Some at → (before after : Outside) (stop : Stop) → FailsToPut (Some at) o before after stop → IsUnput define path source old before after stop
+  unput_there path at is before after stop h = subst (λ p. IsUnput define p source old before after stop) (sym is) (inr (record { new = new; output = o; composed = composed; fails = h }))
+
+-- ---- plugging
+
+-- what is not there or not plugged, by the name and the keys
+pub unplugged_by : (packages : List Entry) (name n : Name) (keys ks : List Key) (into : Key) → name ≡ n → keys ≡ ks → HasNoPlug packages name keys into → HasNoPlug packages n ks into
+unplugged_by packages name n keys ks into p q h = subst (λ (x : Name). HasNoPlug packages x ks into) p (subst (λ (xs : List Key). HasNoPlug packages name xs into) q h)
+
+-- ---- runs
+
+-- what stops a command with the text at a path, by its bytes
+pub stops_at_text : {word path : Name} {had left : Option (List ℕ)} {before after : Outside} {text source : List ℕ} (calls called : Option Calls) (stop : Stop) → IsTextAt had left before.files path source → text ≡ source
+    → DoesNot word text before after stop → StopsAt word had left calls called path before after stop
+stops_at_text {word = word} {before = before} {after = after} {source = source} calls called stop at same h = inr (source, at, subst (λ (x : List ℕ). DoesNot word x before after stop) same h)
 
 -- ---- lines
 
--- a stop is told by its line
-pub told_line : {E : Type 0} (text : String Global) (span : Option SourceSpan) (stop : Stop) (shown : List ℕ) (line : Result (String Global) E) (before after : Option (List ℕ)) → stop ≡ Stop.Refused text span → shown ≡ string_bytes text
+-- a text is written whole, or a front of it
+pub written : {T E : Type 0} (r : Result T E) (line : List ℕ) (before after : Errors) → OnOk r (Appends before.written after.written line) → OnErr r (AppendsPrefix before.written after.written line)
+    → OnOk r (NoneFailed before.calls after.calls) → OnErr r (FailedOnce before.calls after.calls) → Writes line before after
+written (Ok x) line before after whole front fine failed = inl (whole, fine)
+written (Err e) line before after whole front fine failed = inr (front, failed)
+
+-- a refusal is told by its line
+pub told_line : {E : Type 0} (text : String Global) (span : Option SourceSpan) (stop : Stop) (shown : List ℕ) (line : Result (String Global) E) (before after : Errors) → stop ≡ Stop.Refused text span → shown ≡ string_bytes text
     → IfOk line (λ l. string_bytes l ≡ refused_text shown span) → TellsLine line before after → Tells stop before after
-told_line text span stop shown (Ok l) before after is text_is same t = record {
-  told = stop;
-  either = inl refl;
-  written = subst (AppendsPrefix before after) (same ∙ ap (λ (x : List ℕ). refused_text x span) text_is ∙ sym (ap told_text is)) t;
-}
-told_line text span stop shown (Err e) before after is text_is same t = record { told = Stop.Memory; either = inr refl; written = t }
+told_line text span stop shown (Ok l) before after is text_is same t =
+    subst (λ (s : Stop). Tells s before after) (sym is) (inl (subst (λ bytes. Writes bytes before after) (same ∙ ap (λ (x : List ℕ). refused_text x span) text_is) t))
+told_line text span stop shown (Err e) before after is text_is same t = subst (λ (s : Stop). Tells s before after) (sym is) (inr t)
+
+-- ---- calls
+
+-- no call is at most so many
+pub no_calls : (calls : Option Calls) (limit : ℕ) → CallsAtMost calls calls limit
+no_calls None limit = tt
+no_calls (Some k) limit = (k, refl, omega arith)

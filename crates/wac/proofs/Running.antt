@@ -8,24 +8,31 @@ use Rattle.wac_manifest.specs.declared.manifest.Key.{Key}
 use Rattle.wac_manifest.specs.declared.manifest.Source.{Source}
 use Rattle.wac_workspace.specs.declared.entries.Entry.{Entry}
 use Rattle.wac_workspace.specs.Packages.{Held}
+use Rattle.wac_workspace.specs.Composing.{ComposesSource}
 use Rattle.wac_workspace.specs.declared.output.Output.{Output}
 use Rattle.wac_texts.specs.Files.{Stored}
-use Rattle.wac.specs.Running.{Composes, Keeps, Outside, PlugsFound, Puts, PutsSource, PutsSources, line_of, outside}
+use Rattle.wac_streams.specs.Calls.{Calls, NoneFailed}
+use Rattle.wac.specs.Running.{Keeps, NoneFails, Outside, PlugsFound, Puts, PutsSource, PutsSources, line_of, outside}
 
 pub both_ok : {T E P Q R : Type 0} (r : Result T E) → (P → Q → R) → OnOk r P → OnOk r Q → OnOk r R
 both_ok (Ok x) f p q = f p q
 both_ok (Err e) f p q = tt
 
-module _ (define : Bool) (path : Option Name) (source : List ℕ) (old new : Held) (o : Output) (composed : Composes define source old new o) where
-  -- what is composed without a path, and with one
-  pub put_here : (files : Option Stored) (had has : Option (List ℕ)) → path ≡ None → Appends had has (line_of None o) → Puts define path source old new (outside files had) (outside files has)
-  put_here files had has is line =
-      subst (λ p. Puts define p source old new (outside files had) (outside files has)) (sym is) (record { output = o; composed = composed; kept = refl; line = line })
+pub all_ok : {T E P Q R S : Type 0} (r : Result T E) → (P → Q → R → S) → OnOk r P → OnOk r Q → OnOk r R → OnOk r S
+all_ok (Ok x) f p q s = f p q s
+all_ok (Err e) f p q s = tt
 
-  pub put_there : (at : Name) (before after : Option Stored) (had has : Option (List ℕ)) → path ≡ Some at → Keeps (Some at) o.bytes.items before after → Appends had has (line_of (Some at) o)
-      → Puts define path source old new (outside before had) (outside after has)
-  put_there at before after had has is kept line =
-      subst (λ p. Puts define p source old new (outside before had) (outside after has)) (sym is) (record { output = o; composed = composed; kept = kept; line = line })
+module _ (define : Bool) (path : Option Name) (source : List ℕ) (old new : Held) (o : Output) (composed : ComposesSource old new source define o) where
+  -- what is composed without a path, and with one
+  pub put_here : (files : Option Stored) (failures : Option ℕ) (had has : Option (List ℕ)) (calls called : Option Calls) → path ≡ None → Appends had has (line_of None o) → NoneFailed calls called
+      → Puts define path source old new (outside files failures had calls) (outside files failures has called)
+  put_here files failures had has calls called is line fine =
+      subst (λ p. Puts define p source old new (outside files failures had calls) (outside files failures has called)) (sym is)
+      (record { output = o; composed = composed; kept = refl; line = line; fine = record { files = refl; output = fine } })
+
+  pub put_there : (at : Name) (before after : Outside) → path ≡ Some at → Keeps (Some at) o.bytes.items before.files after.files → Appends before.printed after.printed (line_of (Some at) o) → NoneFails before after → Puts define path source old new before after
+  put_there at before after is kept line fine =
+      subst (λ p. Puts define p source old new before after) (sym is) (record { output = o; composed = composed; kept = kept; line = line; fine = fine })
 
 -- what is composed of a text, by its bytes and its path
 pub put_at : (define : Bool) (old new : Held) (before after : Outside) (path at : Option Name) (text source : List ℕ) → path ≡ at → text ≡ source → Puts define path text old new before after → Puts define at source old new before after

@@ -6,11 +6,15 @@ use Rattle.wac_manifest.specs.declared.data.TextData.{TextData}
 use Rattle.wac_texts.specs.Files.{Stored, Has}
 use Rattle.wac.specs.declared.stop.Stop.{Stop}
 
--- a cause is told only where it stands, and then told
+-- What stands where a stop is told, where a writer failed, and where memory was short.
+abbrev pub Ends : (cause unwritten short : Type 0) → Stop → Type 0
+Ends cause unwritten short (Stop.Refused text span) = cause
+Ends cause unwritten short Stop.Unwritten = unwritten
+Ends cause unwritten short Stop.Memory = short
+
+-- a cause is told only where it stands; no writer failed
 abbrev pub StopsFor : Type 0 → Stop → Type 0
-StopsFor cause (Stop.Refused text span) = cause
-StopsFor cause Stop.Unwritten = ⊥
-StopsFor cause Stop.Memory = Unit {0}
+StopsFor cause = Ends cause ⊥ (Unit {0})
 
 -- the path has no file
 abbrev pub IsUnread : Option Stored → Name → Stop → Type 0
@@ -31,10 +35,14 @@ pub record HasNoText (files : Option Stored) (path : Name) : Type 0 where
   pub has : Has files path (Some bytes)
   pub no_text : IsUtf8 bytes → ⊥
 
--- a text that is given is there; that of a file is not, where the path has none or its bytes are no text
+-- the path has no file, or one whose bytes are no text
+abbrev pub HasNoFileText : Option Stored → Name → Type 0
+HasNoFileText files path = Has files path None ⊎ HasNoText files path
+
+-- a text that is given is there; that of a file may not be
 abbrev pub HasNoTextOf : Option Stored → TextData → Type 0
 HasNoTextOf files (TextData.Text given) = ⊥
-HasNoTextOf files (TextData.File path) = Has files (string_bytes path) None ⊎ HasNoText files (string_bytes path)
+HasNoTextOf files (TextData.File path) = HasNoFileText files (string_bytes path)
 
 abbrev pub IsTextRefused : Option Stored → TextData → Stop → Type 0
 IsTextRefused files «data» = StopsFor (HasNoTextOf files «data»)

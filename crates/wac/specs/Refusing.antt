@@ -1,5 +1,9 @@
--- Why a run stops: what does not stand in the manifest, its files and its texts.
-use Rattle.std.specs.Prelude.{◌≡◌, ◌≢◌, ◌⊎◌, ℕ, Bool, not, List, [], Option, Some, None, IsSome, Ok, Err, option_map, slice_get, take, string_bytes}
+-- Why a run stops, and what it leaves: what does not stand in the manifest, its files and its texts.
+use Rattle.std.specs.Prelude.{◌≡◌, ◌≢◌, ◌⊎◌, ℕ, Bool, true, not, List, [], ◌∷◌, Option, Some, None, IsSome, Ok, Err, option_map, slice_get, take, codes, string_bytes}
+use Rattle.std.specs.List.{AllZip}
+use Rattle.std.specs.Str.{IsUtf8}
+use Rattle.wac_streams.specs.Calls.{AppendsPrefix, Calls, FailedOnce}
+use Rattle.wac_types_base.specs.declared.ids.WorldId.{WorldId}
 use Rattle.wac_types_base.specs.Entries.{Name}
 use Rattle.wac_types_base.specs.Graph.{Among}
 use Rattle.wac_types_names.specs.Keys as names
@@ -8,41 +12,45 @@ use Rattle.wac_manifest.specs.declared.data.BytesData.{BytesData}
 use Rattle.wac_manifest.specs.declared.manifest.Component.{Component}
 use Rattle.wac_manifest.specs.declared.manifest.ComposeManifest.{ComposeManifest}
 use Rattle.wac_manifest.specs.declared.manifest.Key.{Key}
+use Rattle.wac_manifest.specs.declared.manifest.PlugManifest.{PlugManifest}
 use Rattle.wac_manifest.specs.declared.manifest.Source.{Source}
-use Rattle.wac_manifest.specs.Manifests.{says_composing}
-use Rattle.wac_manifest.specs.Views.{composing_view, key_view}
+use Rattle.wac_manifest.specs.Manifests.{says_composing, says_plugging}
+use Rattle.wac_manifest.specs.Views.{composing_view, key_view, plugging_view}
 use Rattle.wac_parser_grammar.specs.declared.error.Error.{Error as ParseError}
 use Rattle.wac_parser_grammar.specs.Documents.{document}
 use Rattle.wac_parser_grammar.specs.Faults.{fault_of}
 use Rattle.wac_parser_grammar.specs.Reads.{read_source}
 use Rattle.wac_parser_grammar.specs.Rules.{Rule}
 use Rattle.wac_parser_refusals.specs.declared.error.Error.{Error as ResolutionError}
+use Rattle.wac_parser_resolve.specs.declared.packages.PackageRef.{PackageRef}
 use Rattle.wac_parser_resolve.specs.InDocuments.{IsErrorOf}
 use Rattle.wac_parser_resolve.specs.Meeting.{resolved}
 use Rattle.wac_parser_tree.specs.Trees.{Document}
 use Rattle.wac_workspace.specs.declared.entries.Entry.{Entry}
 use Rattle.wac_workspace.specs.declared.errors.ComposeError.{ComposeError}
 use Rattle.wac_workspace.specs.declared.output.Output.{Output}
-use Rattle.wac_workspace.specs.Composing.{IsDocument, IsRefused, greatest}
+use Rattle.wac_workspace.specs.Composing.{ComposesSource, IsDocument, IsRefused, greatest}
 use Rattle.wac_workspace.specs.Getting.{Gets}
 use Rattle.wac_workspace.specs.Packages.{Held, HasBytes, HasKey}
+use Rattle.wac_workspace.specs.Reading.{HasTooMany, ToEnd}
 use Rattle.wac_workspace.specs.Resolving.{IsGraphOf}
 use Rattle.wac_texts.specs.declared.declared.Declares.{Declares}
 use Rattle.wac_texts.specs.declared.declared.DeclaredWorldError.{DeclaredWorldError}
+use Rattle.wac_texts.specs.declared.plugging.PlugTextError.{PlugTextError}
 use Rattle.wac_texts.specs.Declarations.{declared_in}
-use Rattle.wac_texts.specs.Files.{Stored, Has}
-use Rattle.wac_texts.specs.Worlds.{IsNotGiven}
+use Rattle.wac_texts.specs.Files.{Stored, Has, KeepsOthers, FailsToWrite}
+use Rattle.wac_texts.specs.Plugs.{PlugTextRefused}
+use Rattle.wac_texts.specs.Worlds.{IsDefined, IsNotGiven}
 use Rattle.wac.specs.declared.sources.Wanted.{Wanted}
 use Rattle.wac.specs.declared.stop.Stop.{Stop}
-use Rattle.wac.specs.Adding.{AddsComponents, IsBytesOf, component_key}
-use Rattle.wac.specs.Loading.{HasNoTextOf, IsTextOf}
-use Rattle.wac.specs.Running.{Composes, Outside, PutsSources, options_of, path_of}
+use Rattle.wac.specs.Adding.{AddsComponents, IsBytesOf, component_key, unused}
+use Rattle.wac.specs.Loading.{Ends, HasNoFileText, HasNoTextOf, IsTextOf, StopsFor}
+use Rattle.wac.specs.Telling.{Errors, IsCause, Tells}
+use Rattle.wac.specs.Running.{IsFormatted, IsFound, IsTextAt, Keeps, Outside, PlugsFound, PutsSources, line_of, options_of, path_of}
 
--- a cause is told only where it stands; where a writer failed, or memory was short, nothing is said
-abbrev pub EndsFor : Type 0 → Stop → Type 0
-EndsFor cause (Stop.Refused text span) = cause
-EndsFor cause Stop.Unwritten = Unit {0}
-EndsFor cause Stop.Memory = Unit {0}
+-- a cause is told only where it stands, and nothing was written
+abbrev pub EndsBefore : Type 0 → (before after : Outside) → Stop → Type 0
+EndsBefore cause before after stop = StopsFor cause stop × (after ≡ before)
 
 -- ---- components
 
@@ -51,40 +59,48 @@ abbrev pub HasNoBytesOf : Option Stored → BytesData → Type 0
 HasNoBytesOf files (BytesData.Bytes given) = ⊥
 HasNoBytesOf files (BytesData.File path) = Has files (string_bytes path) None
 
--- a document that declares this gives no world of the name by its graph
-abbrev pub GivesNoWorld : Graph → Declares → Name → Type 0
-GivesNoWorld g declares name = (fault : DeclaredWorldError) × IsNotGiven g declares name fault
-
--- the key or the bytes are a package's, or no number is left
+-- the key is a package's, or the bytes are, or no number is left: the first of these
 abbrev pub IsTaken : Held → names.Key → List ℕ → Type 0
-IsTaken w k bytes = HasKey w.packages k ⊎ HasBytes w.packages bytes ⊎ (w.next ≡ greatest)
+IsTaken w k bytes =
+    HasKey w.packages k
+    ⊎ ((HasKey w.packages k → ⊥) × HasBytes w.packages bytes)
+    ⊎ ((HasKey w.packages k → ⊥) × (HasBytes w.packages bytes → ⊥) × (w.next ≡ greatest))
 
--- what is said of a document, over no packages, has a cause against it, or what it declares gives no world of the name
-abbrev pub LacksWorld : (said declares : Document) → Name → Type 0
-LacksWorld said declares name =
+-- by its graph, a document that declares this gives no world of the name; or it gives one, and what is to have it is taken
+abbrev pub GivesNone : Graph → Declares → Name → (taken : Type 0) → Type 0
+GivesNone g declares name taken =
+    ((fault : DeclaredWorldError) × IsNotGiven g declares name fault)
+    ⊎ ((declares ≡ Declares.World) × ((world : WorldId) × IsDefined g name world) × taken)
+
+-- what is said of a document, over no packages, has a cause against it; or the graph that holds it gives none
+abbrev pub SaysNone : (said declares : Document) → Name → (taken : Type 0) → Type 0
+SaysNone said declares name taken =
     ((fault : ResolutionError) × (fault ≢ ResolutionError.Memory) × IsErrorOf (resolved said []) fault)
-    ⊎ ((g : Graph) × IsGraphOf (resolved said []) g × GivesNoWorld g (declared_in declares name) name)
+    ⊎ ((g : Graph) × IsGraphOf (resolved said []) g × GivesNone g (declared_in declares name) name taken)
 
 -- the rule does not read the text
 abbrev pub IsNotRead : {X : Type 0} → Rule X → (text : List ℕ) → Type 0
 IsNotRead rule text = (fault : ParseError) × (fault ≢ ParseError.Memory) × (read_source rule text ≡ Err (fault_of fault))
 
--- the text is no document, or one that lacks the world
-abbrev pub DeclaresNone : (text : List ℕ) → Name → Type 0
-DeclaresNone text name = IsNotRead document text ⊎ ((d : Document) × IsDocument text d × LacksWorld d d name)
+-- the text is no document, or one that gives no world, or what is to have it is taken
+abbrev pub DeclaresNone : (text : List ℕ) → Name → (taken : Type 0) → Type 0
+DeclaresNone text name taken = IsNotRead document text ⊎ ((d : Document) × IsDocument text d × SaysNone d d name taken)
 
 -- so it is of what a rule reads of a text
-abbrev pub ReadsNone : {T X : Type 0} → (T → X) → Rule X → (said declares : T → Document) → (text : List ℕ) → Name → Type 0
-ReadsNone {T = T} view rule said declares text name =
-    IsNotRead rule text ⊎ ((t : T) × (read_source rule text ≡ Ok (view t)) × LacksWorld (said t) (declares t) name)
+abbrev pub ReadsNone : {T X : Type 0} → (T → X) → Rule X → (said declares : T → Document) → (text : List ℕ) → Name
+    → (taken : Type 0) → Type 0
+ReadsNone {T = T} view rule said declares text name taken =
+    IsNotRead rule text ⊎ ((t : T) × (read_source rule text ≡ Ok (view t)) × SaysNone (said t) (declares t) name taken)
 
--- the bytes or the text of a component are not there, or the text declares no such world, or the key or the bytes are taken
+-- Why a component is not added, the first cause in order: its bytes are not there; the text of its world is not; that declares no
+-- such world; or the key, the bytes or the numbers are taken.
 abbrev pub IsNotAdded : Option Stored → Component → Held → Type 0
 IsNotAdded files x w =
     HasNoBytesOf files x.bytes
-    ⊎ HasNoTextOf files x.world
-    ⊎ ((text : List ℕ) × IsTextOf files x.world text × DeclaresNone text (string_bytes x.select))
-    ⊎ ((bytes : List ℕ) × IsBytesOf files x.bytes bytes × IsTaken w (component_key x) bytes)
+    ⊎ ((bytes : List ℕ) × IsBytesOf files x.bytes bytes
+    × (HasNoTextOf files x.world
+    ⊎ ((text : List ℕ) × IsTextOf files x.world text
+    × DeclaresNone text (string_bytes x.select) (IsTaken w (component_key x) bytes))))
 
 -- the component at a place is not added, where those before it are
 pub record StopsAdding (files : Option Stored) (xs : List Component) (w : Held) : Type 0 where
@@ -92,7 +108,7 @@ pub record StopsAdding (files : Option Stored) (xs : List Component) (w : Held) 
   pub stopped : Component
   pub there : slice_get xs at ≡ Some stopped
   pub between : Held
-  pub adds : AddsComponents files (take at xs) w.packages between.packages
+  pub adds : AddsComponents files (take at xs) w between
   pub cause : IsNotAdded files stopped between
 
 -- ---- sources
@@ -100,59 +116,173 @@ pub record StopsAdding (files : Option Stored) (xs : List Component) (w : Held) 
 -- composing the text over the packages that stand there is refused for a cause
 abbrev pub IsUncomposed : (define : Bool) → (source : List ℕ) → Held → Type 0
 IsUncomposed define source w =
-    (fault : ComposeError) × (fault ≢ ComposeError.Memory) × IsRefused w source (options_of define) fault
+    (fault : ComposeError) × IsCause fault × IsRefused w source (options_of define) fault
 
--- the text is composed, and its component is to go to a file, which is not written
-pub record IsUnkept (define : Bool) (path : Option Name) (source : List ℕ) (old : Held) : Type 0 where
+-- at most the file of the path has changed, and nothing was printed
+abbrev pub KeepsAllBut : (path : Option Name) → (before after : Option Stored) → Type 0
+KeepsAllBut None before after = after ≡ before
+KeepsAllBut (Some path) before after = KeepsOthers path before after
+
+pub record TouchesFile (path : Option Name) (before after : Outside) : Type 0 where
+  pub others : KeepsAllBut path before.files after.files
+  pub printed : after.printed ≡ before.printed
+  pub calls : after.calls ≡ before.calls
+
+-- the component was to go to a file, and writing that failed
+pub record FailsToKeep (path : Option Name) (before after : Outside) : Type 0 where
   pub file : IsSome path
+  pub touches : TouchesFile path before after
+  pub failed : FailsToWrite before.failures after.failures
+
+-- the component went where it was to go, and writing its line failed: a front of that is written
+pub record FailsToTell (path : Option Name) (o : Output) (before after : Outside) : Type 0 where
+  pub kept : Keeps path o.bytes.items before.files after.files
+  pub failures : after.failures ≡ before.failures
+  pub front : AppendsPrefix before.printed after.printed (line_of path o)
+  pub failed : FailedOnce before.calls after.calls
+
+-- writing a line failed, and a front of it is written; or memory was short, and nothing is
+abbrev pub FailsToWriteLine : (line : List ℕ) → (had has : Option (List ℕ)) → (calls called : Option Calls) → Stop → Type 0
+FailsToWriteLine line had has calls called =
+    Ends ⊥ (AppendsPrefix had has line × FailedOnce calls called) ((has ≡ had) × (called ≡ calls))
+
+-- an output that is not put where it was to go
+abbrev pub FailsToPut : (path : Option Name) → Output → (before after : Outside) → Stop → Type 0
+FailsToPut path o before after =
+    Ends (FailsToKeep path before after) (FailsToTell path o before after) (TouchesFile path before after)
+
+-- the text is composed, and its output is not put where it was to go
+pub record IsUnkept (define : Bool) (path : Option Name) (source : List ℕ) (old : Held) (before after : Outside) (stop : Stop)
+    : Type 0 where
   pub new : Held
   pub output : Output
-  pub composed : Composes define source old new output
+  pub composed : ComposesSource old new source define output
+  pub fails : FailsToPut path output before after stop
 
-abbrev pub IsUnput : (define : Bool) → (path : Option Name) → (source : List ℕ) → Held → Type 0
-IsUnput define path source w = IsUncomposed define source w ⊎ IsUnkept define path source w
+abbrev pub IsUnput : (define : Bool) → (path : Option Name) → (source : List ℕ) → Held → (before after : Outside) → Stop
+    → Type 0
+IsUnput define path source w before after stop =
+    EndsBefore (IsUncomposed define source w) before after stop ⊎ IsUnkept define path source w before after stop
 
 -- so it is where this is wanted
-abbrev pub PutsNot : Wanted → (source : List ℕ) → Held → Type 0
-PutsNot wanted source w = IsUnput wanted.define (option_map (λ p. p.now) wanted.path) source w
+abbrev pub PutsNot : Wanted → (source : List ℕ) → Held → (before after : Outside) → Stop → Type 0
+PutsNot wanted source w before after stop =
+    IsUnput wanted.define (option_map (λ p. p.now) wanted.path) source w before after stop
 
--- the text of a source is not there, or it is not composed, or its component is not kept
-abbrev pub IsStopped : (define : Bool) → Source → Held → Option Stored → Type 0
-IsStopped define s w files =
-    HasNoTextOf files s.source
-    ⊎ ((source : List ℕ) × IsTextOf files s.source source × IsUnput define (path_of s) source w)
+-- the text of a source is not there, or it is not put
+abbrev pub IsStopped : (define : Bool) → Source → Held → (before after : Outside) → Stop → Type 0
+IsStopped define s w before after stop =
+    EndsBefore (HasNoTextOf before.files s.source) before after stop
+    ⊎ ((source : List ℕ) × IsTextOf before.files s.source source × IsUnput define (path_of s) source w before after stop)
 
--- so it is of the source at a place, where those before it are composed
-pub record StopsComposing (define : Bool) (ss : List Source) (w : Held) (before : Outside) : Type 0 where
+-- so it is of the source at a place, where those before it are put
+pub record StopsComposing (define : Bool) (ss : List Source) (w : Held) (before after : Outside) (stop : Stop) : Type 0 where
   pub at : ℕ
   pub stopped : Source
   pub there : slice_get ss at ≡ Some stopped
   pub mid : Held
   pub between : Outside
   pub puts : PutsSources define (take at ss) w mid before between
-  pub cause : IsStopped define stopped mid between.files
+  pub stops : IsStopped define stopped mid between after stop
 
 -- ---- what a command is stopped by
 
--- a manifest's components are not all added to a workspace without packages
-pub record IsNotBegun (files : Option Stored) (xs : List Component) : Type 0 where
-  pub first : Held
-  pub empty : first.packages ≡ []
-  pub stops : StopsAdding files xs first
+-- a manifest's components are not all added
+abbrev pub IsNotBegun : (xs : List Component) → (before after : Outside) → Stop → Type 0
+IsNotBegun xs before after stop = EndsBefore (StopsAdding before.files xs unused) before after stop
 
--- A manifest's components are added, and its sources are not all composed.
-pub record IsNotComposed (manifest : ComposeManifest) (before : Outside) : Type 0 where
+-- A manifest's components are added, and its sources are not all put.
+pub record IsNotComposed (manifest : ComposeManifest) (before after : Outside) (stop : Stop) : Type 0 where
   pub added : Held
-  pub adds : AddsComponents before.files manifest.components.items [] added.packages
-  pub stops : StopsComposing (not manifest.«import») manifest.sources.items added before
+  pub adds : AddsComponents before.files manifest.components.items unused added
+  pub stops : StopsComposing (not manifest.«import») manifest.sources.items added before after stop
 
 -- the text says no manifest, or one that is not begun or not composed
-abbrev pub ComposesNot : (source : List ℕ) → (before : Outside) → Type 0
-ComposesNot source before =
-    (says_composing source ≡ None)
+abbrev pub ComposesNot : (source : List ℕ) → (before after : Outside) → Stop → Type 0
+ComposesNot source before after stop =
+    EndsBefore (says_composing source ≡ None) before after stop
     ⊎ ((manifest : ComposeManifest) × (says_composing source ≡ Some (composing_view manifest))
-    × (IsNotBegun before.files manifest.components.items ⊎ IsNotComposed manifest before))
+    × (IsNotBegun manifest.components.items before after stop ⊎ IsNotComposed manifest before after stop))
 
 -- no package stands under one of the keys
 abbrev pub IsNotFound : List Entry → List Key → Type 0
 IsNotFound packages keys = (k : Key) × Among k keys × Gets packages (key_view k) None
+
+-- the packages of these keys stand there, and no text plugs them
+pub record IsNotPlugged (packages : List Entry) (name : Name) (keys : List Key) (into : Key) : Type 0 where
+  pub plugs : List PackageRef
+  pub found : AllZip (IsFound packages) keys plugs
+  pub socket : PackageRef
+  pub stands : IsFound packages into socket
+  pub fault : PlugTextError
+  pub not_memory : fault ≢ PlugTextError.Memory
+  pub refused : PlugTextRefused name plugs socket fault
+
+-- there is no text that plugs what a manifest says: a package is not there, or they are not plugged
+abbrev pub HasNoPlug : List Entry → (name : Name) → (keys : List Key) → (into : Key) → Type 0
+HasNoPlug packages name keys into = IsNotFound packages (into ∷ keys) ⊎ IsNotPlugged packages name keys into
+
+-- A manifest's components are added, and there is no text that plugs them, or it is not put.
+pub record IsNotPlugging (manifest : PlugManifest) (before after : Outside) (stop : Stop) : Type 0 where
+  pub added : Held
+  pub adds : AddsComponents before.files manifest.components.items unused added
+  pub stops :
+      EndsBefore (HasNoPlug added.packages (string_bytes manifest.name) manifest.plugs.items manifest.socket) before after stop
+      ⊎ ((source : List ℕ) × PlugsFound added.packages (string_bytes manifest.name) manifest.plugs.items manifest.socket source
+      × IsUnput true (option_map string_bytes manifest.out) source added before after stop)
+
+abbrev pub PlugsNot : (source : List ℕ) → (before after : Outside) → Stop → Type 0
+PlugsNot source before after stop =
+    EndsBefore (says_plugging source ≡ None) before after stop
+    ⊎ ((manifest : PlugManifest) × (says_plugging source ≡ Some (plugging_view manifest))
+    × (IsNotBegun manifest.components.items before after stop ⊎ IsNotPlugging manifest before after stop))
+
+-- the text is no document; or writing its print failed, and a front of that is written; or memory was short
+abbrev pub FailsToPrint : (source : List ℕ) → (had has : Option (List ℕ)) → (calls called : Option Calls) → Stop → Type 0
+FailsToPrint source had has calls called =
+    Ends (IsNotRead document source × (has ≡ had) × (called ≡ calls))
+    ((print : List ℕ) × IsFormatted source print × AppendsPrefix had has print × FailedOnce calls called)
+    ((has ≡ had) × (called ≡ calls))
+
+-- so it is, and no file changes
+pub record FormatsNot (source : List ℕ) (before after : Outside) (stop : Stop) : Type 0 where
+  pub fails : FailsToPrint source before.printed after.printed before.calls after.calls stop
+  pub files : after.files ≡ before.files
+  pub failures : after.failures ≡ before.failures
+
+-- what stops a command with a text
+abbrev pub DoesNot : (word : Name) → (source : List ℕ) → (before after : Outside) → Stop → Type 0
+DoesNot word source before after stop =
+    ((word ≡ codes "compose") × ComposesNot source before after stop)
+    ⊎ ((word ≡ codes "format") × FormatsNot source before after stop)
+    ⊎ ((word ≡ codes "plug") × PlugsNot source before after stop)
+
+-- ---- runs
+
+-- the input failed, had too much, or is no text
+abbrev pub HasNoInputText : (had left : Option (List ℕ)) → (calls called : Option Calls) → Type 0
+HasNoInputText had left calls called =
+    FailedOnce calls called ⊎ HasTooMany had ⊎ ((bytes : List ℕ) × ToEnd had left bytes × (IsUtf8 bytes → ⊥))
+
+-- no text stands at the path: in its file, or for `-` in the input
+abbrev pub HasNoTextAt : (had left : Option (List ℕ)) → (calls called : Option Calls) → Option Stored → Name → Type 0
+HasNoTextAt had left calls called files path =
+    ((path ≡ codes "-") × HasNoInputText had left calls called) ⊎ ((path ≢ codes "-") × HasNoFileText files path)
+
+-- What stops a run whose words are a command and a path: no text stands there, or what stops the command with it.
+abbrev pub StopsAt : (word : Name) → (had left : Option (List ℕ)) → (calls called : Option Calls) → (path : Name)
+    → (before after : Outside) → Stop → Type 0
+StopsAt word had left calls called path before after stop =
+    EndsBefore (HasNoTextAt had left calls called before.files path) before after stop
+    ⊎ ((source : List ℕ) × IsTextAt had left before.files path source × DoesNot word source before after stop)
+
+-- A run that is refused: its words are a command and a path, what is told of it stands there, and the line of that is written to
+-- the errors, or a front of it where they failed.
+pub record IsRefusedRun (words : List Name) (had left : Option (List ℕ)) (calls called : Option Calls) (before after : Outside)
+    (untold told : Errors) : Type 0 where
+  pub word : Name
+  pub path : Name
+  pub asked : words ≡ word ∷ path ∷ []
+  pub stop : Stop
+  pub stops : StopsAt word had left calls called path before after stop
+  pub tells : Tells stop untold told

@@ -1,9 +1,10 @@
 -- What the program does.
-use Rattle.std.specs.Prelude.{◌≡◌, ◌≢◌, ◌⊎◌, ℕ, Bool, true, not, List, [], ◌∷◌, ◌++◌, length, Option, Some, None, Ok, option_map, codes, string_bytes}
+use Rattle.std.specs.Prelude.{◌≡◌, ◌≢◌, ◌≤◌, ◌⊎◌, ℕ, Bool, true, not, List, [], ◌∷◌, ◌++◌, length, Option, Some, None, Ok, option_map, codes, string_bytes}
 use Rattle.std.specs.Io.KnownBytes.{Appends}
 use Rattle.std.specs.Fmt.{decimal}
 use Rattle.std.specs.List.{AllZip}
 use Rattle.hex.specs.Hex.{encode_lower}
+use Rattle.wac_streams.specs.Calls.{Calls, NoneFailed}
 use Rattle.wac_types_base.specs.Entries.{Name}
 use Rattle.wac_types_names.specs.Keys.{key_text}
 use Rattle.wac_graph_encode.specs.declared.options.EncodeOptions.{EncodeOptions}
@@ -26,7 +27,7 @@ use Rattle.wac_manifest.specs.Manifests.{says_composing, says_plugging}
 use Rattle.wac_manifest.specs.Views.{composing_view, key_view, plugging_view}
 use Rattle.wac_texts.specs.Files.{Stored, Has, KeepsOthers}
 use Rattle.wac_texts.specs.Plugs.{Plugs}
-use Rattle.wac.specs.Adding.{AddsComponents}
+use Rattle.wac.specs.Adding.{AddsComponents, unused}
 use Rattle.wac.specs.declared.sources.Wanted.{Wanted}
 use Rattle.wac.specs.Loading.{IsTextOf}
 
@@ -36,17 +37,21 @@ use Rattle.wac.specs.Loading.{IsTextOf}
 abbrev pub options_of : (define : Bool) → EncodeOptions
 options_of define = record { define_components = define; validate = true; processor = None }
 
--- what comes of a text over the packages that stand in a workspace: an output, and a workspace with it
-abbrev pub Composes : (define : Bool) → (source : List ℕ) → (old new : Held) → (o : Output) → Type 0
-Composes define source old new o = ComposesSource old new source define o
-
--- what is known of the files, and of what was printed
+-- what is known of the files and of the output: what they have, and how many writes failed
 pub record Outside : Type 0 where
   pub files : Option Stored
+  pub failures : Option ℕ
   pub printed : Option (List ℕ)
+  pub calls : Option Calls
 
-abbrev pub outside : (files : Option Stored) → (printed : Option (List ℕ)) → Outside
-outside files printed = record { files = files; printed = printed }
+abbrev pub outside : (files : Option Stored) → (failures : Option ℕ) → (printed : Option (List ℕ)) → (calls : Option Calls)
+    → Outside
+outside files failures printed calls = record { files = files; failures = failures; printed = printed; calls = calls }
+
+-- no write failed
+pub record NoneFails (before after : Outside) : Type 0 where
+  pub files : after.failures ≡ before.failures
+  pub output : NoneFailed before.calls after.calls
 
 -- the file of the path has these bytes now, and no other file has changed; without a path none has
 abbrev pub Keeps : (path : Option Name) → List ℕ → (before after : Option Stored) → Type 0
@@ -65,9 +70,10 @@ line_of (Some path) o = head_of o ++ 10 ∷ []
 -- a text is composed; its component is kept, and its line printed
 pub record Puts (define : Bool) (path : Option Name) (source : List ℕ) (old new : Held) (before after : Outside) : Type 0 where
   pub output : Output
-  pub composed : Composes define source old new output
+  pub composed : ComposesSource old new source define output
   pub kept : Keeps path output.bytes.items before.files after.files
   pub line : Appends before.printed after.printed (line_of path output)
+  pub fine : NoneFails before after
 
 -- so is one that is wanted so
 abbrev pub PutsWanted : Wanted → (source : List ℕ) → (old new : Held) → (before after : Outside) → Type 0
@@ -89,10 +95,14 @@ PutsSources define (s ∷ ss) old new before after =
 
 -- ---- texts
 
--- the text is that of the file, and the input is left, or for `-` it is all that the input had
+-- the text is all that the input had, and not too long
+abbrev pub IsInputText : (had left : Option (List ℕ)) → List ℕ → Type 0
+IsInputText had left source = ToEnd had left source × (length source ≤ 16777216)
+
+-- the text is that of the file, and the input is left, or for `-` it is that of the input
 abbrev pub IsTextAt : (had left : Option (List ℕ)) → Option Stored → Name → List ℕ → Type 0
 IsTextAt had left files path source =
-    ((path ≡ codes "-") × ToEnd had left source) ⊎ ((path ≢ codes "-") × Has files path (Some source) × (left ≡ had))
+    ((path ≡ codes "-") × IsInputText had left source) ⊎ ((path ≢ codes "-") × Has files path (Some source) × (left ≡ had))
 
 -- ---- runs
 
@@ -103,7 +113,7 @@ pub record ComposesManifest (source : List ℕ) (before after : Outside) : Type 
   pub said : says_composing source ≡ Some (composing_view manifest)
   pub added : Held
   pub last : Held
-  pub adds : AddsComponents before.files manifest.components.items [] added.packages
+  pub adds : AddsComponents before.files manifest.components.items unused added
   pub puts : PutsSources (not manifest.«import») manifest.sources.items added last before after
 
 -- the package that stands under a key
@@ -125,7 +135,7 @@ pub record PlugsManifest (source : List ℕ) (before after : Outside) : Type 0 w
   pub said : says_plugging source ≡ Some (plugging_view manifest)
   pub added : Held
   pub last : Held
-  pub adds : AddsComponents before.files manifest.components.items [] added.packages
+  pub adds : AddsComponents before.files manifest.components.items unused added
   pub plugging : List ℕ
   pub plugs : PlugsFound added.packages (string_bytes manifest.name) manifest.plugs.items manifest.socket plugging
   pub puts : Puts true (option_map string_bytes manifest.out) plugging added last before after
@@ -147,8 +157,10 @@ abbrev pub FormatsTo : (source : List ℕ) → (before after : Option (List ℕ)
 FormatsTo source before after = (print : List ℕ) × IsFormatted source print × Appends before after print
 
 -- so it is, and no file changes
-abbrev pub Formats : (source : List ℕ) → (before after : Outside) → Type 0
-Formats source before after = FormatsTo source before.printed after.printed × (after.files ≡ before.files)
+pub record Formats (source : List ℕ) (before after : Outside) : Type 0 where
+  pub prints : FormatsTo source before.printed after.printed
+  pub files : after.files ≡ before.files
+  pub fine : NoneFails before after
 
 -- what a command does with a text
 abbrev pub Does : (word : Name) → (source : List ℕ) → (before after : Outside) → Type 0

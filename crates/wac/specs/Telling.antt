@@ -1,12 +1,14 @@
 -- Where what is told of a fault stands.
-use Rattle.std.specs.Prelude.{◌≡◌, ◌⊎◌, ℕ, List, [], ◌∷◌, ◌++◌, Option, Some, None, Result, Ok, Err, codes, string_bytes}
+use Rattle.std.specs.Prelude.{◌≡◌, ◌≢◌, ◌⊎◌, ℕ, List, [], ◌∷◌, ◌++◌, Option, Some, None, Result, Ok, Err, codes, string_bytes}
 use Rattle.std.specs.declared.alloc.Global.{Global}
 use Rattle.std.specs.declared.string.String.{String}
 use Rattle.std.specs.Fmt.{decimal}
-use Rattle.wac_streams.specs.Calls.{AppendsPrefix}
+use Rattle.std.specs.Io.KnownBytes.{Appends}
+use Rattle.wac_streams.specs.Calls.{AppendsPrefix, Calls, FailedOnce, NoneFailed}
 use Rattle.wac_parser_lexer.specs.declared.span.SourceSpan.{SourceSpan}
 use Rattle.wac_parser_grammar.specs.declared.error.Error.{Error}
 use Rattle.wac_parser_grammar.specs.declared.error.Error.TheVariants as e
+use Rattle.wac_parser_refusals.specs.declared.error.Error.TheVariants as resolving
 use Rattle.wac_parser_refusals.specs.Causes.{span_of}
 use Rattle.wac_parser_refusals.specs.Views.{cause_of}
 use Rattle.wac_workspace.specs.declared.errors.ComposeError.{ComposeError}
@@ -23,6 +25,13 @@ place_in_source (e.EmptyType ty kind span) = Some span
 place_in_source (e.InvalidVersion version span) = Some span
 place_in_source (e.NestedTooDeep span) = Some span
 place_in_source e.Memory = None
+
+-- the fault is a cause, and no want of memory
+abbrev pub IsCause : ComposeError → Type 0
+IsCause (composing.Parse fault) = fault ≢ e.Memory
+IsCause (composing.Resolution fault) = fault ≢ resolving.Memory
+IsCause composing.Memory = ⊥
+IsCause fault = Unit {0}
 
 -- what is told stands there; for want of memory nothing is told
 abbrev pub TellsAt : Option SourceSpan → Stop → Type 0
@@ -50,19 +59,28 @@ refused_text text (Some span) = placed_text text span
 abbrev pub short_text : List ℕ
 short_text = codes "error: out of memory\n"
 
--- the line that tells of a stop; where a writer failed there is none
-abbrev pub told_text : Stop → List ℕ
-told_text (Stop.Refused text span) = refused_text (string_bytes text) span
-told_text Stop.Unwritten = []
-told_text Stop.Memory = short_text
+-- what is known of the errors: what was written to them, and their calls
+pub record Errors : Type 0 where
+  pub written : Option (List ℕ)
+  pub calls : Option Calls
 
--- the line, if there is one, or else that memory was short, is written, or a front of it
-abbrev pub TellsLine : {E : Type 0} → Result (String Global) E → (before after : Option (List ℕ)) → Type 0
-TellsLine (Ok line) before after = AppendsPrefix before after (string_bytes line)
-TellsLine (Err e) before after = AppendsPrefix before after short_text
+abbrev pub errors : (written : Option (List ℕ)) → (calls : Option Calls) → Errors
+errors written calls = record { written = written; calls = calls }
 
--- a stop is told, or else want of memory: a front of that line is written, or all of it
-pub record Tells (stop : Stop) (before after : Option (List ℕ)) : Type 0 where
-  pub told : Stop
-  pub either : (told ≡ stop) ⊎ (told ≡ Stop.Memory)
-  pub written : AppendsPrefix before after (told_text told)
+-- a line is written whole, or a front of it where a call failed
+abbrev pub Writes : List ℕ → (before after : Errors) → Type 0
+Writes line before after =
+    (Appends before.written after.written line × NoneFailed before.calls after.calls)
+    ⊎ (AppendsPrefix before.written after.written line × FailedOnce before.calls after.calls)
+
+-- the line, if there is one, or else that memory was short, is written
+abbrev pub TellsLine : {E : Type 0} → Result (String Global) E → (before after : Errors) → Type 0
+TellsLine (Ok line) before after = Writes (string_bytes line) before after
+TellsLine (Err e) before after = Writes short_text before after
+
+-- a refusal is told by its line, or else want of memory is; where a writer failed, nothing is
+abbrev pub Tells : Stop → (before after : Errors) → Type 0
+Tells (Stop.Refused text span) before after =
+    Writes (refused_text (string_bytes text) span) before after ⊎ Writes short_text before after
+Tells Stop.Unwritten before after = after ≡ before
+Tells Stop.Memory before after = Writes short_text before after

@@ -1,13 +1,16 @@
 //! What the program can be asked to do.
 
-ghost use Rattle.std.specs.Prelude.{All, None, IfOk, IfErr, OnOk, string_bytes};
+ghost use Rattle.std.specs.Prelude.{◌≡◌, All, None, IfOk, IfErr, OnOk, OnErr, string_bytes};
+ghost use Rattle.std.specs.Io.KnownBytes.{Appends};
 ghost use Rattle.std.specs.List.{AllZip};
+ghost use Rattle.wac_streams.specs.Calls.{AppendsPrefix, FailedOnce, NoneFailed};
 ghost use Rattle.wac_manifest.specs.Views.{key_view};
 ghost use Rattle.wac_parser_grammar.specs.Documents.{document};
 ghost use Rattle.wac_workspace.specs.Getting.{Gets};
 ghost use Rattle.wac_texts.specs.Worlds.{HasWorld};
+ghost use Rattle.wac.specs.declared.stop.Stop.{Stop as Halt};
 ghost use Rattle.wac.specs.Loading.{StopsFor};
-ghost use Rattle.wac.specs.Refusing.{ComposesNot, EndsFor, IsNotFound, IsNotRead};
+ghost use Rattle.wac.specs.Refusing.{ComposesNot, FailsToPrint, HasNoPlug, IsNotFound, IsNotRead, PlugsNot};
 ghost use Rattle.wac.specs.Running.{ComposesManifest, FormatsTo, IsFound, IsPrintOf, PlugsFound, PlugsManifest, outside};
 
 use crate::components::add_components;
@@ -31,8 +34,11 @@ pub(crate) fn compose<F: Files, W: ByteSink>(
     out: &mut W,
 ) -> Result<(), Stop>
     ensures composes { OnOk result (ComposesManifest text.now
-        (outside (F.stored files.old) (W.contents out.old)) (outside (F.stored files.new) (W.contents out.new))) }
-    ensures refused { IfErr result (EndsFor (ComposesNot text.now (outside (F.stored files.old) (W.contents out.old)))) }
+        (outside (F.stored files.old) (F.failures files.old) (W.contents out.old) (W.calls out.old))
+        (outside (F.stored files.new) (F.failures files.new) (W.contents out.new) (W.calls out.new))) }
+    ensures refused { IfErr result (ComposesNot text.now
+        (outside (F.stored files.old) (F.failures files.old) (W.contents out.old) (W.calls out.old))
+        (outside (F.stored files.new) (F.failures files.new) (W.contents out.new) (W.calls out.new))) }
 {
     let manifest = match ComposeManifest::read(alloc, text) {
         Ok(manifest) => manifest,
@@ -86,8 +92,9 @@ fn plugging_text(
     plugs: &[Key],
     socket: &Key,
 ) -> Result<String, Stop>
-    ensures { IfOk result
+    ensures plugs { IfOk result
         (λ text. PlugsFound workspace.now.packages name.now plugs.now socket.now (string_bytes text)) }
+    ensures refused { IfErr result (StopsFor (HasNoPlug workspace.now.packages name.now plugs.now socket.now)) }
 {
     let plugs = find_all(alloc, workspace, plugs)?;
     let socket = find(alloc, workspace, socket)?;
@@ -105,8 +112,12 @@ pub(crate) fn plug<F: Files, W: ByteSink>(
     files: &mut F,
     out: &mut W,
 ) -> Result<(), Stop>
-    ensures { OnOk result (PlugsManifest text.now
-        (outside (F.stored files.old) (W.contents out.old)) (outside (F.stored files.new) (W.contents out.new))) }
+    ensures plugs { OnOk result (PlugsManifest text.now
+        (outside (F.stored files.old) (F.failures files.old) (W.contents out.old) (W.calls out.old))
+        (outside (F.stored files.new) (F.failures files.new) (W.contents out.new) (W.calls out.new))) }
+    ensures refused { IfErr result (PlugsNot text.now
+        (outside (F.stored files.old) (F.failures files.old) (W.contents out.old) (W.calls out.old))
+        (outside (F.stored files.new) (F.failures files.new) (W.contents out.new) (W.calls out.new))) }
 {
     let manifest = match PlugManifest::read(alloc, text) {
         Ok(manifest) => manifest,
@@ -135,14 +146,27 @@ fn printed<'s, D: ParseDocument<'s> + PrintDocument>(
     }
 }
 
-/// Prints a document.
-pub(crate) fn format<W: ByteSink>(alloc: Global, source: &str, out: &mut W) -> Result<(), Stop>
-    ensures formats { OnOk result (FormatsTo source.now (W.contents out.old) (W.contents out.new)) }
-    ensures refused { IfErr result (EndsFor (IsNotRead document source.now)) }
+/// Writes a print.
+fn put_print<W: ByteSink>(out: &mut W, print: &[u8]) -> Result<(), Stop>
+    ensures whole { OnOk result (Appends (W.contents out.old) (W.contents out.new) print.now) }
+    ensures front { OnErr result (AppendsPrefix (W.contents out.old) (W.contents out.new) print.now) }
+    ensures none_failed { OnOk result (NoneFailed (W.calls out.old) (W.calls out.new)) }
+    ensures failed { OnErr result (FailedOnce (W.calls out.old) (W.calls out.new)) }
+    ensures refused { IfErr result (λ stop. stop ≡ Halt.Unwritten) }
 {
-    let text = printed::<Document<'_>>(source, alloc)?;
-    match write_bytes(out, &text) {
+    match write_bytes(out, print) {
         Ok(()) => Ok(()),
         Err(_) => Err(Stop::Unwritten),
     }
+}
+
+/// Prints a document.
+pub(crate) fn format<W: ByteSink>(alloc: Global, source: &str, out: &mut W) -> Result<(), Stop>
+    ensures formats { OnOk result (FormatsTo source.now (W.contents out.old) (W.contents out.new)) }
+    ensures none_failed { OnOk result (NoneFailed (W.calls out.old) (W.calls out.new)) }
+    ensures refused { IfErr result (FailsToPrint source.now (W.contents out.old) (W.contents out.new)
+        (W.calls out.old) (W.calls out.new)) }
+{
+    let text = printed::<Document<'_>>(source, alloc)?;
+    put_print(out, text.as_slice())
 }

@@ -1,11 +1,11 @@
 //! The components of a manifest.
 
-ghost use Rattle.std.specs.Prelude.{◌≡◌, ◌≢◌, ◌⊎◌, Some, None, IfOk, IfErr, OnOk, string_bytes};
+ghost use Rattle.std.specs.Prelude.{◌≡◌, ◌≢◌, Some, None, IfOk, IfErr, OnOk, string_bytes};
 ghost use Rattle.wac_parser_refusals.specs.declared.error.Error.{Error as Unresolved};
 ghost use Rattle.wac_texts.specs.Files.{Has};
 ghost use Rattle.wac.specs.Adding.{IsBytesOf, AddsComponent, AddsComponents, AddsDefined, AddsRead, added_key};
-ghost use Rattle.wac.specs.Loading.{IsUnread, IsNoText, IsTextOf, IsTextRefused, StopsFor};
-ghost use Rattle.wac.specs.Refusing.{GivesNoWorld, HasNoBytesOf, IsNotAdded, IsTaken, ReadsNone, StopsAdding};
+ghost use Rattle.wac.specs.Loading.{HasNoFileText, IsUnread, IsNoText, IsTextOf, IsTextRefused, StopsFor};
+ghost use Rattle.wac.specs.Refusing.{GivesNone, HasNoBytesOf, IsNotAdded, IsTaken, ReadsNone, StopsAdding};
 ghost use Rattle.wac_texts.specs.declared.declared.DeclaredWorldError.{DeclaredWorldError as Lack};
 ghost use Rattle.wac_workspace.specs.declared.errors.AddPackageError.{AddPackageError as Taken};
 
@@ -46,6 +46,15 @@ pub fn text_of(alloc: Global, path: &str, bytes: &[u8]) -> Result<String, Stop>
     }
 }
 
+/// The text of a file.
+pub(crate) fn file_text<F: Files>(alloc: Global, files: &F, path: &str) -> Result<String, Stop>
+    ensures text { IfOk result (λ text. Has (F.stored files.now) path.now (Some (string_bytes text))) }
+    ensures refused { IfErr result (StopsFor (HasNoFileText (F.stored files.now) path.now)) }
+{
+    let bytes = read_file(alloc, files, path)?;
+    text_of(alloc, path, &bytes)
+}
+
 /// The bytes that a manifest gives.
 fn bytes_of<F: Files>(alloc: Global, files: &F, data: BytesData) -> Result<Vec<u8>, Stop>
     ensures bytes { IfOk result (λ bytes. IsBytesOf (F.stored files.now) «data» bytes.items) }
@@ -64,10 +73,7 @@ pub fn load_text<F: Files>(alloc: Global, files: &F, data: TextData) -> Result<S
 {
     match data {
         TextData::Text(text) => Ok(text),
-        TextData::File(path) => {
-            let bytes = read_file(alloc, files, path.as_str())?;
-            text_of(alloc, path.as_str(), &bytes)
-        }
+        TextData::File(path) => file_text(alloc, files, path.as_str()),
     }
 }
 
@@ -112,9 +118,9 @@ fn add_with_graph(
     graph: &CompositionGraph,
     declares: Declares,
 ) -> Result<(), Stop>
-    ensures added { OnOk result (AddsDefined graph.now declares added workspace.old.packages workspace.new.packages) }
-    ensures refused { IfErr result (StopsFor (GivesNoWorld graph.now declares (string_bytes added.select)
-        ⊎ IsTaken workspace.old (added_key added) added.bytes.items)) }
+    ensures added { OnOk result (AddsDefined graph.now declares added workspace.old workspace.new) }
+    ensures refused { IfErr result (StopsFor (GivesNone graph.now declares (string_bytes added.select)
+        (IsTaken workspace.old (added_key added) added.bytes.items))) }
 {
     let Added {
         name,
@@ -154,10 +160,9 @@ fn add_with_text<'s, D: ParseDocument<'s> + ResolveDocument + DeclareDocument>(
     added: Added,
 ) -> Result<(), Stop>
     ensures added { OnOk result (AddsRead D.view D.rule D.ResolveDocument.stated D.DeclareDocument.stated source.now added
-        workspace.old.packages workspace.new.packages) }
-    ensures refused { IfErr result (StopsFor
-        (ReadsNone D.view D.rule D.ResolveDocument.stated D.DeclareDocument.stated source.now (string_bytes added.select)
-        ⊎ IsTaken workspace.old (added_key added) added.bytes.items)) }
+        workspace.old workspace.new) }
+    ensures refused { IfErr result (StopsFor (ReadsNone D.view D.rule D.ResolveDocument.stated D.DeclareDocument.stated
+        source.now (string_bytes added.select) (IsTaken workspace.old (added_key added) added.bytes.items))) }
 {
     let document = match D::parse(alloc, source) {
         Ok(document) => document,
@@ -178,7 +183,7 @@ fn add_component<F: Files>(
     workspace: &mut Workspace,
     component: Component,
 ) -> Result<(), Stop>
-    ensures added { OnOk result (AddsComponent (F.stored files.now) component workspace.old.packages workspace.new.packages) }
+    ensures added { OnOk result (AddsComponent (F.stored files.now) component workspace.old workspace.new) }
     ensures refused { IfErr result (StopsFor (IsNotAdded (F.stored files.now) component workspace.old)) }
 {
     let bytes = bytes_of(alloc, files, component.bytes)?;
@@ -199,8 +204,7 @@ pub fn add_components<F: Files>(
     workspace: &mut Workspace,
     components: Vec<Component>,
 ) -> Result<(), Stop>
-    ensures added { OnOk result
-        (AddsComponents (F.stored files.now) components.items workspace.old.packages workspace.new.packages) }
+    ensures added { OnOk result (AddsComponents (F.stored files.now) components.items workspace.old workspace.new) }
     ensures refused { IfErr result (StopsFor (StopsAdding (F.stored files.now) components.items workspace.old)) }
 {
     for component in components {

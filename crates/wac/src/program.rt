@@ -1,24 +1,27 @@
 //! The run of the program.
 
-ghost use Rattle.std.specs.Prelude.{◌≡◌, ◌≤◌, ◌⊎◌, ◌↔◌, ◌++◌, List, [], ◌∷◌, codes, map, IsSome, IfSome, IfOk, OnOk, string_bytes};
+ghost use Rattle.std.specs.Prelude.{◌≡◌, ◌≢◌, ◌≤◌, ◌+◌, ◌⊎◌, ◌↔◌, ◌++◌, List, [], ◌∷◌, length, codes, map, IsSome, IfSome, IfOk, IfErr, OnOk, string_bytes};
 ghost use Rattle.std.specs.Fmt.{decimal};
 ghost use Rattle.std.specs.Io.KnownBytes.{Appends};
-ghost use Rattle.wac_streams.specs.Calls.{FailedOnce};
+ghost use Rattle.wac_streams.specs.Calls.{CallsAtMost, FailedOnce};
 ghost use Rattle.wac_types_base.specs.Entries.{Name};
-ghost use Rattle.wac_workspace.specs.Reading.{ToEnd};
+ghost use Rattle.wac_workspace.specs.declared.errors.StreamError.{StreamError as Unread};
+ghost use Rattle.wac_workspace.specs.Reading.{HasTooMany, ToEnd};
+ghost use Rattle.wac.specs.Loading.{StopsFor};
+ghost use Rattle.wac.specs.Refusing.{HasNoInputText, HasNoTextAt, IsRefusedRun, StopsAt};
 ghost use Rattle.wac.specs.declared.program.Command.{Command};
-ghost use Rattle.wac.specs.Running.{DoesAt, IsTextAt, Runs, outside};
-ghost use Rattle.wac.specs.Telling.{Tells, TellsLine, placed_text, refused_text};
+ghost use Rattle.wac.specs.Running.{DoesAt, IsInputText, IsTextAt, Runs, outside};
+ghost use Rattle.wac.specs.Telling.{Tells, TellsLine, errors, placed_text, refused_text};
 ghost use Rattle.wac.specs.Words.{IsCommand, Asks, usage, word_of};
 
 use crate::commands::{compose, format, plug};
-use crate::components::{read_file, text_of};
+use crate::components::{file_text, text_of};
 use crate::sources::put;
 use crate::stop::{Stop, cannot_read};
 use std::alloc::{AllocError, Global};
 use wac_parser_lexer::SourceSpan;
 use wac_texts::Files;
-use wac_workspace::{ByteSink, ByteSource, StreamError, read_source};
+use wac_workspace::{ByteSink, ByteSource, MAX_SOURCE_LENGTH, StreamError, read_source};
 
 /// What other words are answered.
 const USAGE: &str = "usage: wac compose|format|plug FILE\n";
@@ -73,7 +76,9 @@ fn asked<'a>(words: &[&'a str]) -> Option<(Command, &'a str)>
 // A fault is dropped by a call of `drop`: in an arm of a `match` each proof would take its whole type apart.
 
 /// Why the input was not read.
-fn unread(alloc: Global, fault: StreamError) -> Stop {
+fn unread(alloc: Global, fault: StreamError) -> Stop
+    ensures { StopsFor (fault ≢ Unread.Memory) result }
+{
     let stop = match &fault {
         StreamError::Memory => Stop::Memory,
         _ => cannot_read(alloc, "-"),
@@ -84,12 +89,27 @@ fn unread(alloc: Global, fault: StreamError) -> Stop {
 
 /// What the input has.
 fn read_input<R: ByteSource>(alloc: Global, input: &mut R) -> Result<Vec<u8>, Stop>
-    ensures { IfOk result (λ bytes. ToEnd (R.remaining input.old) (R.remaining input.new) bytes.items) }
+    ensures whole { IfOk result (λ bytes. ToEnd (R.remaining input.old) (R.remaining input.new) bytes.items) }
+    ensures bound { IfOk result (λ bytes. length bytes.items ≤ MAX_SOURCE_LENGTH) }
+    ensures few_calls { CallsAtMost (R.calls input.old) (R.calls input.new) (MAX_SOURCE_LENGTH + 1) }
+    ensures refused { IfErr result
+        (StopsFor (FailedOnce (R.calls input.old) (R.calls input.new) ⊎ HasTooMany (R.remaining input.old))) }
 {
     match read_source(alloc, input) {
         Ok(bytes) => Ok(bytes),
         Err(fault) => Err(unread(alloc, fault)),
     }
+}
+
+/// The text that the input has.
+fn input_text<R: ByteSource>(alloc: Global, input: &mut R) -> Result<String, Stop>
+    ensures text { IfOk result (λ text. IsInputText (R.remaining input.old) (R.remaining input.new) (string_bytes text)) }
+    ensures few_calls { CallsAtMost (R.calls input.old) (R.calls input.new) (MAX_SOURCE_LENGTH + 1) }
+    ensures refused { IfErr result (StopsFor (HasNoInputText (R.remaining input.old) (R.remaining input.new)
+        (R.calls input.old) (R.calls input.new))) }
+{
+    let bytes = read_input(alloc, input)?;
+    text_of(alloc, "-", &bytes)
 }
 
 /// The text of a file, or for `-` of the input.
@@ -99,15 +119,17 @@ fn text_at<F: Files, R: ByteSource>(
     input: &mut R,
     files: &F,
 ) -> Result<String, Stop>
-    ensures { IfOk result
+    ensures text { IfOk result
         (λ text. IsTextAt (R.remaining input.old) (R.remaining input.new) (F.stored files.now) path.now (string_bytes text)) }
+    ensures few_calls { CallsAtMost (R.calls input.old) (R.calls input.new) (MAX_SOURCE_LENGTH + 1) }
+    ensures refused { IfErr result (StopsFor (HasNoTextAt (R.remaining input.old) (R.remaining input.new)
+        (R.calls input.old) (R.calls input.new) (F.stored files.now) path.now)) }
 {
-    let bytes = if path == "-" {
-        read_input(alloc, input)?
+    if path == "-" {
+        input_text(alloc, input)
     } else {
-        read_file(alloc, files, path)?
-    };
-    text_of(alloc, path, &bytes)
+        file_text(alloc, files, path)
+    }
 }
 
 /// Does what is asked.
@@ -119,8 +141,14 @@ fn done<F: Files, R: ByteSource, O: ByteSink>(
     files: &mut F,
     out: &mut O,
 ) -> Result<(), Stop>
-    ensures { OnOk result (DoesAt (word_of command) (R.remaining input.old) (R.remaining input.new) path.now
-        (outside (F.stored files.old) (O.contents out.old)) (outside (F.stored files.new) (O.contents out.new))) }
+    ensures done { OnOk result (DoesAt (word_of command) (R.remaining input.old) (R.remaining input.new) path.now
+        (outside (F.stored files.old) (F.failures files.old) (O.contents out.old) (O.calls out.old))
+        (outside (F.stored files.new) (F.failures files.new) (O.contents out.new) (O.calls out.new))) }
+    ensures few_calls { CallsAtMost (R.calls input.old) (R.calls input.new) (MAX_SOURCE_LENGTH + 1) }
+    ensures refused { IfErr result (StopsAt (word_of command) (R.remaining input.old) (R.remaining input.new)
+        (R.calls input.old) (R.calls input.new) path.now
+        (outside (F.stored files.old) (F.failures files.old) (O.contents out.old) (O.calls out.old))
+        (outside (F.stored files.new) (F.failures files.new) (O.contents out.new) (O.calls out.new))) }
 {
     let text = text_at(alloc, path, input, files)?;
     match command {
@@ -164,7 +192,7 @@ fn line_of(alloc: Global, text: &str, span: Option<SourceSpan>) -> Result<String
 
 /// Tells a line, or else that memory was short.
 fn tell_line<E: ByteSink>(err: &mut E, line: Result<String, AllocError>)
-    ensures { TellsLine line (E.contents err.old) (E.contents err.new) }
+    ensures { TellsLine line (errors (E.contents err.old) (E.calls err.old)) (errors (E.contents err.new) (E.calls err.new)) }
 {
     let _ = match line {
         Ok(line) => put(err, line.as_str()),
@@ -174,7 +202,7 @@ fn tell_line<E: ByteSink>(err: &mut E, line: Result<String, AllocError>)
 
 /// Tells why a run was refused, or else that memory was short. Whether that is written makes no difference.
 fn tell<E: ByteSink>(alloc: Global, err: &mut E, stop: Stop)
-    ensures { Tells stop (E.contents err.old) (E.contents err.new) }
+    ensures { Tells stop (errors (E.contents err.old) (E.calls err.old)) (errors (E.contents err.new) (E.calls err.new)) }
 {
     match stop {
         Stop::Unwritten => {}
@@ -214,7 +242,14 @@ pub fn run<F: Files, R: ByteSource, O: ByteSink, E: ByteSink>(
     ensures idle { result ≡ 2 → (input.new ≡ input.old) × (files.new ≡ files.old) × (out.new ≡ out.old) }
     ensures quiet { result ≡ 0 → err.new ≡ err.old }
     ensures done { result ≡ 0 → Runs (map (λ word. word.now) words.now) (R.remaining input.old) (R.remaining input.new)
-        (outside (F.stored files.old) (O.contents out.old)) (outside (F.stored files.new) (O.contents out.new)) }
+        (outside (F.stored files.old) (F.failures files.old) (O.contents out.old) (O.calls out.old))
+        (outside (F.stored files.new) (F.failures files.new) (O.contents out.new) (O.calls out.new)) }
+    ensures refused { Asks (map (λ word. word.now) words.now) → result ≡ 1 → IsRefusedRun (map (λ word. word.now) words.now)
+        (R.remaining input.old) (R.remaining input.new) (R.calls input.old) (R.calls input.new)
+        (outside (F.stored files.old) (F.failures files.old) (O.contents out.old) (O.calls out.old))
+        (outside (F.stored files.new) (F.failures files.new) (O.contents out.new) (O.calls out.new))
+        (errors (E.contents err.old) (E.calls err.old)) (errors (E.contents err.new) (E.calls err.new)) }
+    ensures few_calls { CallsAtMost (R.calls input.old) (R.calls input.new) (MAX_SOURCE_LENGTH + 1) }
 {
     let Some((command, path)) = asked(words) else {
         return misused(err);

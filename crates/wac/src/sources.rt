@@ -1,13 +1,14 @@
 //! Sources that are composed, and the lines of their outputs.
 
-ghost use Rattle.std.specs.Prelude.{◌≡◌, ◌≢◌, Some, None, IfOk, IfErr, OnOk, OnErr, option_map, string_bytes};
-ghost use Rattle.wac_workspace.specs.declared.errors.ComposeError.{ComposeError as Fault};
+ghost use Rattle.std.specs.Prelude.{◌≡◌, Some, None, IfOk, IfErr, OnOk, OnErr, option_map, string_bytes};
 ghost use Rattle.std.specs.Io.KnownBytes.{Appends};
-ghost use Rattle.wac_streams.specs.Calls.{AppendsPrefix, FailedOnce};
+ghost use Rattle.wac_streams.specs.Calls.{AppendsPrefix, FailedOnce, NoneFailed};
 ghost use Rattle.wac.specs.declared.stop.Stop.{Stop as Halt};
 ghost use Rattle.wac.specs.Loading.{StopsFor};
-ghost use Rattle.wac.specs.Refusing.{EndsFor, IsUncomposed, PutsNot, StopsComposing};
-ghost use Rattle.wac.specs.Running.{Composes, Keeps, PutsSources, PutsWanted, head_of, line_of, outside};
+ghost use Rattle.wac.specs.Refusing.{FailsToPut, FailsToWriteLine, IsUncomposed, PutsNot, StopsComposing};
+ghost use Rattle.wac_workspace.specs.Composing.{ComposesSource};
+ghost use Rattle.wac.specs.Telling.{IsCause};
+ghost use Rattle.wac.specs.Running.{Keeps, PutsSources, PutsWanted, head_of, line_of, outside};
 
 use crate::components::load_text;
 use crate::documents::NameDocument;
@@ -24,6 +25,7 @@ use wac_workspace::{ByteSink, ComposeError, EncodeOptions, Output, Workspace, wr
 pub(crate) fn put<W: ByteSink>(out: &mut W, text: &str) -> Result<(), Stop>
     ensures whole { OnOk result (Appends (W.contents out.old) (W.contents out.new) text.now) }
     ensures front { OnErr result (AppendsPrefix (W.contents out.old) (W.contents out.new) text.now) }
+    ensures none_failed { OnOk result (NoneFailed (W.calls out.old) (W.calls out.new)) }
     ensures failed { OnErr result (FailedOnce (W.calls out.old) (W.calls out.new)) }
     ensures refused { IfErr result (λ stop. stop ≡ Halt.Unwritten) }
 {
@@ -48,7 +50,9 @@ fn head_of(alloc: Global, output: &Output) -> Result<String, AllocError>
 /// Writes the line of an output that no file has, its bytes in hexadecimal.
 fn put_line<W: ByteSink>(alloc: Global, out: &mut W, output: &Output) -> Result<(), Stop>
     ensures line { OnOk result (Appends (W.contents out.old) (W.contents out.new) (line_of None output.now)) }
-    ensures refused { IfErr result (EndsFor ⊥) }
+    ensures none_failed { OnOk result (NoneFailed (W.calls out.old) (W.calls out.new)) }
+    ensures refused { IfErr result (FailsToWriteLine (line_of None output.now) (W.contents out.old) (W.contents out.new)
+        (W.calls out.old) (W.calls out.new)) }
 {
     let head = head_of(alloc, output)?;
     let digits = hex::encode(alloc, output.bytes.as_slice())?;
@@ -65,7 +69,12 @@ fn put_file<F: Files, W: ByteSink>(
     output: &Output,
 ) -> Result<(), Stop>
     ensures kept { OnOk result (Keeps (Some path.now) output.now.bytes.items (F.stored files.old) (F.stored files.new)) }
+    ensures failures { OnOk result (F.failures files.new ≡ F.failures files.old) }
     ensures line { OnOk result (Appends (W.contents out.old) (W.contents out.new) (line_of (Some path.now) output.now)) }
+    ensures none_failed { OnOk result (NoneFailed (W.calls out.old) (W.calls out.new)) }
+    ensures refused { IfErr result (FailsToPut (Some path.now) output.now
+        (outside (F.stored files.old) (F.failures files.old) (W.contents out.old) (W.calls out.old))
+        (outside (F.stored files.new) (F.failures files.new) (W.contents out.new) (W.calls out.new))) }
 {
     match files.write(alloc, path, &output.bytes) {
         Ok(()) => {}
@@ -89,7 +98,7 @@ fn taken_by<'s, D: ParseDocument<'s> + NameDocument>(source: &'s str, alloc: Glo
 
 /// Why a text was not composed.
 fn refused(source: &str, alloc: Global, fault: ComposeError) -> Stop
-    ensures { StopsFor (fault ≢ Fault.Memory) result }
+    ensures { StopsFor (IsCause fault) result }
 {
     let stop = match &fault {
         ComposeError::KeyTaken => taken_by::<Document<'_>>(source, alloc),
@@ -106,7 +115,7 @@ fn composed(
     workspace: &mut Workspace,
     define: bool,
 ) -> Result<Output, Stop>
-    ensures composed { IfOk result (Composes define source.now workspace.old workspace.new) }
+    ensures composed { IfOk result (ComposesSource workspace.old workspace.new source.now define) }
     ensures refused { IfErr result (StopsFor (IsUncomposed define source.now workspace.old)) }
 {
     let options = EncodeOptions {
@@ -137,9 +146,11 @@ pub(crate) fn put_composed<F: Files, W: ByteSink>(
     wanted: Wanted<'_>,
 ) -> Result<(), Stop>
     ensures puts { OnOk result (PutsWanted wanted.entry source.now workspace.old workspace.new
-        (outside (F.stored files.old) (W.contents out.old)) (outside (F.stored files.new) (W.contents out.new))) }
-    ensures refused { IfErr result
-        (EndsFor (PutsNot wanted.entry source.now workspace.old)) }
+        (outside (F.stored files.old) (F.failures files.old) (W.contents out.old) (W.calls out.old))
+        (outside (F.stored files.new) (F.failures files.new) (W.contents out.new) (W.calls out.new))) }
+    ensures refused { IfErr result (PutsNot wanted.entry source.now workspace.old
+        (outside (F.stored files.old) (F.failures files.old) (W.contents out.old) (W.calls out.old))
+        (outside (F.stored files.new) (F.failures files.new) (W.contents out.new) (W.calls out.new))) }
 {
     let output = composed(source, alloc, workspace, wanted.define)?;
     match wanted.path {
@@ -168,9 +179,11 @@ pub(crate) fn put_sources<F: Files, W: ByteSink>(
     define: bool,
 ) -> Result<(), Stop>
     ensures puts { OnOk result (PutsSources define sources.items workspace.old workspace.new
-        (outside (F.stored files.old) (W.contents out.old)) (outside (F.stored files.new) (W.contents out.new))) }
-    ensures refused { IfErr result (EndsFor
-        (StopsComposing define sources.items workspace.old (outside (F.stored files.old) (W.contents out.old)))) }
+        (outside (F.stored files.old) (F.failures files.old) (W.contents out.old) (W.calls out.old))
+        (outside (F.stored files.new) (F.failures files.new) (W.contents out.new) (W.calls out.new))) }
+    ensures refused { IfErr result (StopsComposing define sources.items workspace.old
+        (outside (F.stored files.old) (F.failures files.old) (W.contents out.old) (W.calls out.old))
+        (outside (F.stored files.new) (F.failures files.new) (W.contents out.new) (W.calls out.new))) }
 {
     for source in sources {
         let text = load_text(alloc, files, source.source)?;

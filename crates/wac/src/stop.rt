@@ -6,9 +6,8 @@ ghost use Rattle.wac_parser_grammar.specs.declared.error.Error.{Error as Parsing
 ghost use Rattle.wac_parser_refusals.specs.declared.error.Error.{Error as Resolving};
 ghost use Rattle.wac_parser_refusals.specs.Causes.{span_of};
 ghost use Rattle.wac_parser_refusals.specs.Views.{cause_of};
-ghost use Rattle.wac_workspace.specs.declared.errors.ComposeError.{ComposeError as Composing};
 ghost use Rattle.wac.specs.Loading.{StopsFor};
-ghost use Rattle.wac.specs.Telling.{place_in_source, TellsAt, TellsOf};
+ghost use Rattle.wac.specs.Telling.{place_in_source, IsCause, TellsAt, TellsOf};
 ghost use Rattle.wac.specs.declared.stop.Stop.{Stop};
 
 use std::alloc::{AllocError, AllocFailed, Global};
@@ -141,7 +140,7 @@ pub(crate) fn key_taken<K: Display>(alloc: Global, key: &K) -> Stop
 /// A fault of composing, but for a key that is there already.
 pub fn not_composed(alloc: Global, fault: &ComposeError) -> Stop
     ensures place { TellsOf fault.now result }
-    ensures cause { StopsFor (fault.now ≢ Composing.Memory) result }
+    ensures cause { StopsFor (IsCause fault.now) result }
 {
     match fault {
         ComposeError::Memory => Stop::Memory,

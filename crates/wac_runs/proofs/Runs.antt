@@ -12,7 +12,7 @@ use Rattle.wac_types_base.proofs.Looked.{among-get}
 use Rattle.wac_composition.specs.Sound.{maps_of}
 use Rattle.wac_manifest.specs.declared.manifest.Component.{Component}
 use Rattle.wac_manifest.specs.declared.manifest.Source.{Source}
-use Rattle.wac_nesting.specs.Steps.{Add, Other, Step, after_all}
+use Rattle.wac_nesting.specs.Steps.{Add, Step, after_all}
 use Rattle.wac_parser_tree.specs.Trees.{Document}
 use Rattle.wac_parser_resolve.specs.Ascribing.{State}
 use Rattle.wac_parser_resolve.specs.Meeting.{resolved}
@@ -22,29 +22,25 @@ use Rattle.wac_workspace.specs.declared.output.Output.{Output}
 use Rattle.wac_workspace.specs.Packages.{HasBytes, Held}
 use Rattle.wac_workspace.specs.Composing.{AreAscribedBytes, ComposesSource, IsDocument, IsMeantBy, MeansSource}
 use Rattle.wac_workspace.specs.Resolving.{Handed, Resolves, handed}
-use Rattle.wac_outputs.specs.Calls.{AreCalls, none_yet, then_call, hands_in, composes, keeps, IsEntryOf, world_in}
+use Rattle.wac_outputs.specs.Calls.{AreCalls, none_yet, then_call, hands_in, composes, IsEntryOf, world_in}
 use Rattle.wac_outputs.proofs.Called.{carried}
 use Rattle.wac_workspace.proofs.Zips.{zip_at}
-use Rattle.wac.specs.Adding.{AddsComponents}
+use Rattle.wac.specs.Adding.{AddsComponents, unused}
 use Rattle.wac.specs.Running.{Outside, Puts, PutsSources, path_of}
 use Rattle.wac_runs.specs.Levels.{IsLeft, Runs_are_as_ascribed, outputs_of}
 
 -- ---- calls
 
--- a workspace with these packages
-abbrev holding : List Entry → Held
-holding es = record { next = 0; packages = es }
-
-record Adds (first : Held) (es : List Entry) : Type 0 where
+record Adds (first last : Held) : Type 0 where
   pub steps : List Step
-  pub calls : AreCalls first steps (holding es)
+  pub calls : AreCalls first steps last
 
-adds : (files : Option Stored) (xs : List Component) (first : Held) (old new : List Entry) (steps : List Step) → AreCalls first steps (holding old) → AddsComponents files xs old new → Adds first new
-adds files [] first old new steps calls all = record { steps = steps; calls = subst (λ es. AreCalls first steps (holding es)) (sym all) calls }
+adds : (files : Option Stored) (xs : List Component) (first old new : Held) (steps : List Step) → AreCalls first steps old → AddsComponents files xs old new → Adds first new
+adds files [] first old new steps calls all = record { steps = steps; calls = subst (λ w. AreCalls first steps w) (sym all) calls }
 adds files (x ∷ xs) first old new steps calls all =
     let one = all.1.0.added in
     adds files xs first all.0 new (steps ++ Add one.parts.bytes (world_in one.parts.types one.parts.world) ∷ [])
-    (then_call calls (hands_in one.parts (λ has. one.fresh (subst (HasBytes old) one.bytes has)) one.added)) all.1.1
+    (then_call calls (hands_in one.parts (λ has. one.fresh (subst (HasBytes old.packages) one.bytes has)) one.added)) all.1.1
 
 -- packages stay when others come
 abbrev Stays : (old new : List Entry) → Type 0
@@ -129,8 +125,7 @@ left steps last zip (o ∷ os) kept =
 
 pub runs : Runs_are_as_ascribed
 runs source before after run nested =
-    let empty = holding [] in
-    let a = adds before.files run.manifest.components.items empty [] run.added.packages [] none_yet run.adds in
-    let c = composing (not run.manifest.«import») (ap not nested) run.manifest.sources.items empty run.added run.last before after (a.steps ++ Other ∷ []) (then_call a.calls (keeps refl)) run.puts in
-    let so = carried empty run.last c.steps refl c.calls in
-    record { first = empty; empty = refl; steps = c.steps; calls = c.calls; ascribed = so; outputs = left c.steps run.last so.entries _ c.kept }
+    let a = adds before.files run.manifest.components.items unused unused run.added [] none_yet run.adds in
+    let c = composing (not run.manifest.«import») (ap not nested) run.manifest.sources.items unused run.added run.last before after a.steps a.calls run.puts in
+    let so = carried unused run.last c.steps refl c.calls in
+    record { first = unused; empty = refl; steps = c.steps; calls = c.calls; ascribed = so; outputs = left c.steps run.last so.entries _ c.kept }

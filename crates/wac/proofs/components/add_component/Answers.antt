@@ -10,7 +10,7 @@ returns g c =
     let shown = c.as_str.result.now in
     record {
       added = on_ok_weaker c.add_with_text.result
-          (component_added _ c.args.component c.in_ok-bytes.bytes text shown c.args.workspace.now.packages c.add_with_text.new.workspace.packages c.in_ok-bytes.ensures.bytes c.in_ok-source.ensures.text c.as_str.ensures.value)
+          (component_added _ c.args.component c.in_ok-bytes.bytes text shown c.args.workspace.now c.add_with_text.new.workspace c.in_ok-bytes.ensures.bytes c.in_ok-source.ensures.text c.as_str.ensures.value)
           c.add_with_text.ensures.added;
       refused = err_stops c.add_with_text.result
           (component_lacks _ c.args.component c.in_ok-bytes.bytes text shown c.args.workspace.now c.in_ok-bytes.ensures.bytes c.in_ok-source.ensures.text c.as_str.ensures.value)

@@ -19,6 +19,7 @@ returns-in-Ok-add_package-clause-added c = record {
     bytes = refl;
     fresh = c.in-Ok-add_package.ensures.bytes_new;
     added = c.in-Ok-add_package.ensures.added;
+    next = c.in-Ok-add_package.ensures.numbered;
   };
   declared = c.in-Ok.ensures.declared;
   defined = subst (λ (n : Name). IsDefined c.args.graph.now n c.in-Ok.world) c.as_str.ensures.value c.in-Ok.ensures.defined;

@@ -1,4 +1,4 @@
-use Rattle.std.proofs.Common.{[], Option, ap, subst, ◌∙◌}
+use Rattle.std.proofs.Common.{[], Option, ap, string_bytes, subst, ◌∙◌}
 use Rattle.std.proofs.lemmas.Result.{on_ok_weaker}
 use Rattle.wac_types_base.specs.Stated.{Stated}
 use Rattle.wac_parser_refusals.specs.Outcomes.{IsHeld}
@@ -9,7 +9,8 @@ use Rattle.wac_parser_resolve.specs.Meeting.{resolved}
 use Rattle.wac_parser_resolve.specs.Resolved.{graph_of, places_of, target_of}
 use Rattle.wac_workspace.proofs.Resolved.{graph_held}
 use Rattle.wac_texts.specs.Declarations.{declared_in}
-use Rattle.wac.specs.Adding.{AddsDefined}
+use Rattle.wac.specs.Adding.{AddsDefined, added_key}
+use Rattle.wac.specs.Refusing.{IsTaken}
 use Rattle.wac.proofs.Refusing.{err_stops, graph_lacks}
 use Rattle.wac.proofs.components.add_with_text.Goals as goal
 
@@ -28,9 +29,9 @@ returns-in-Ok-resolve g c =
             read = c.in-Ok.ensures;
             graph = c.graph.result.now;
             holds = holds;
-            adds = subst (λ x. AddsDefined c.graph.result.now x c.args.added c.args.workspace.now.packages c.add_with_graph.new.workspace.packages) declares adds;
+            adds = subst (λ x. AddsDefined c.graph.result.now x c.args.added c.args.workspace.now c.add_with_graph.new.workspace) declares adds;
           }) c.add_with_graph.ensures.added;
       refused = err_stops c.add_with_graph.result
-          (graph_lacks g.D.ParseDocument.view g.D.ParseDocument.rule g.D.ResolveDocument.stated g.D.DeclareDocument.stated c.args.source.now c.args.added c.args.workspace.now t c.graph.result.now _ c.in-Ok.ensures holds declares)
+          (graph_lacks g.D.ParseDocument.view g.D.ParseDocument.rule g.D.ResolveDocument.stated g.D.DeclareDocument.stated c.args.source.now (string_bytes c.args.added.select) (IsTaken c.args.workspace.now (added_key c.args.added) c.args.added.bytes.items) t c.graph.result.now _ c.in-Ok.ensures holds declares)
           c.add_with_graph.ensures.refused;
     }
