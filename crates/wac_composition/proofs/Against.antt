@@ -38,7 +38,7 @@ found_some f (x ∷ xs) y e = elim (or_some (f x) (first_found f xs) y e) [
   | inr b ↦ let r = found_some f xs y b.1 in (r.0, inr r.1, r.2)
 ]
 
-found_none : {X Y : Type 0} (f : X → Option Y) (xs : List X) → first_found f xs ≡ None → (x : X) → Among x xs → f x ≡ None
+pub found_none : {X Y : Type 0} (f : X → Option Y) (xs : List X) → first_found f xs ≡ None → (x : X) → Among x xs → f x ≡ None
 found_none f [] e x m = absurd m
 found_none f (z ∷ zs) e x (inl q) = ap f q ∙ (or_none (f z) (first_found f zs) e).0
 found_none f (z ∷ zs) e x (inr m) = found_none f zs (or_none (f z) (first_found f zs) e).1 x m

@@ -12,6 +12,7 @@ use Rattle.wac_types_base.specs.Tree.{Tree, Fields, tree}
 use Rattle.wac_types_base.specs.Fits.{HasField, Fits, FieldsFit, instance_fits}
 use Rattle.wac_types_fit.proofs.TreeLaws.{Fits-refl, Fits-trans}
 use Rattle.wac_types_fit.proofs.Looking.{given, looked-has, has-looked}
+use Rattle.wac_types_fit.proofs.Meeting.{mapped-some}
 use Rattle.wac_types_names.specs.Keys.{Key}
 use Rattle.wac_graph_bytes.specs.Wirings.{Tag, Source, Absent, Outer, Inst, Projection, Bundle, Definition, project, Uses, Instantiation}
 use Rattle.wac_nesting.specs.Given.{HasNone, HasTree, IsDefinition, Gives, Provides, States, AreOuters, IsBoundInstance}
@@ -38,17 +39,13 @@ use Rattle.wac_graph_bytes.proofs.Replace.{Uses-project}
 
 -- ---- maps of named items
 
-has_field : (es : List (Name × Stated)) (n : Name) (x : Stated) → value_at es n ≡ Some x → HasField n (tree x) (fields_of es)
+pub has_field : (es : List (Name × Stated)) (n : Name) (x : Stated) → value_at es n ≡ Some x → HasField n (tree x) (fields_of es)
 has_field es n x e = looked-has n (tree x) (fields_of es) (fields_looked es n ∙ ap (option_map tree) e)
 
-mapped : (o : Option Stated) (t : Tree) → option_map tree o ≡ Some t → (x : Stated) × (o ≡ Some x) × (tree x ≡ t)
-mapped None t e = absurd (none-some _ e)
-mapped (Some x) t e = (x, refl, same_Some _ _ e)
+pub field_has : (es : List (Name × Stated)) (n : Name) (t : Tree) → HasField n t (fields_of es) → (x : Stated) × (value_at es n ≡ Some x) × (tree x ≡ t)
+field_has es n t h = mapped-some tree (value_at es n) t (sym (fields_looked es n) ∙ has-looked n t (fields_of es) (fields_ordered es) h)
 
-field_has : (es : List (Name × Stated)) (n : Name) (t : Tree) → HasField n t (fields_of es) → (x : Stated) × (value_at es n ≡ Some x) × (tree x ≡ t)
-field_has es n t h = mapped (value_at es n) t (sym (fields_looked es n) ∙ has-looked n t (fields_of es) (fields_ordered es) h)
-
-has_none : (es : List (Name × Stated)) (n : Name) → HasNone n (fields_of es) → value_at es n ≡ None
+pub has_none : (es : List (Name × Stated)) (n : Name) → HasNone n (fields_of es) → value_at es n ≡ None
 has_none es n h = go (value_at es n) refl
   where
     go : (o : Option Stated) → value_at es n ≡ o → o ≡ None
@@ -372,7 +369,7 @@ module _ {A : Type 0} (tag_of : Key → Tag) (c : Composition A ℕ) (met : AreM
   are_outers : AreOuters outs (fields_of outers)
   are_outers = record {
     each = λ n t h. let v = field_has outers n t h in ap (option_map tree) v.1 ∙ ap Some v.2;
-    only = λ n t e. let v = mapped (value_at outers n) t e in subst (λ u. HasField n u (fields_of outers)) v.2 (has_field outers n v.0 v.1);
+    only = λ n t e. let v = mapped-some tree (value_at outers n) t e in subst (λ u. HasField n u (fields_of outers)) v.2 (has_field outers n v.0 v.1);
   }
 
   export_at : (n : Name) → value_at exports n ≡ option_map (exported_type asks) (value_at (paired c.exports) n)

@@ -1,8 +1,7 @@
 -- What a graph's nodes need is among what is asked, held and defined.
 use Rattle.std.specs.Prelude.{is_none, is_some, option_map}
 use Rattle.std.specs.FinMap as finite
-use Rattle.std.specs.Option.{option_or}
-use Rattle.std.proofs.Common.{◌≡◌, ℕ, Bool, true, false, true≢false, List, [], ◌∷◌, Option, Some, None, inl, inr, refl, sym, ap, subst, ◌∙◌}
+use Rattle.std.proofs.Common.{◌≡◌, ℕ, Bool, true, false, true≢false, List, [], Option, Some, None, refl, sym, ap, subst, ◌∙◌}
 use Rattle.wac_types_base.specs.declared.ids.WorldId.{WorldId}
 use Rattle.wac_types_base.specs.declared.item.ItemKind.{ItemKind}
 use Rattle.wac_types_base.specs.Record.{Collection}
@@ -21,8 +20,9 @@ use Rattle.wac_graph_core.proofs.Found.{no_argument, no_source}
 use Rattle.wac_graph_scopes.specs.declared.imports.Called.{Called}
 use Rattle.wac_graph_scopes.specs.Parts.{imports_of}
 use Rattle.wac_composition.specs.Asks.{ToFill}
-use Rattle.wac_composition.specs.Conflicts.{Cause, first_found}
+use Rattle.wac_composition.specs.Conflicts.{Cause}
 use Rattle.wac_composition.proofs.Clashing.{name_found}
+use Rattle.wac_composition.proofs.Against.{found_none}
 use Rattle.wac_graph_asks.specs.declared.asks.Definition.{Definition}
 use Rattle.wac_graph_asks.specs.Asked.{package_ids, with_ids}
 use Rattle.wac_graph_asks.specs.Graphs.{nodes_of}
@@ -76,15 +76,6 @@ module _ (g : Graph) (sound : IsGraph g) (finite_types : IsAcyclic g.types) (c :
 
 -- ---- aliases
 
-none_found : {X Y : Type 0} (f : X → Option Y) (xs : List X) → first_found f xs ≡ None → (x : X) → Among x xs → f x ≡ None
-none_found f [] e x m = absurd m
-none_found f (y ∷ xs) e x m = go (f y) refl e m (none_found f xs)
-  where
-    go : (o : Option _) → f y ≡ o → option_or o (first_found f xs) ≡ None → Among x (y ∷ xs) → (first_found f xs ≡ None → (z : _) → Among z xs → f z ≡ None) → f x ≡ None
-    go None q r (inl s) rest = ap f s ∙ q
-    go None q r (inr n) rest = rest r x n
-    go (Some z) q r n rest = absurd (cc r)
-
 module _ (g : Graph) (sound : IsGraph g) (finite_types : IsAcyclic g.types) where
   no_value : alias_cause g ≡ None → (i k : ℕ) (n : Name) → HasAlias g.edges i n k → is_value_at g k ≡ false
   no_value none i k n h = go (first_source g.edges k) refl (is_value_at g k) refl
@@ -97,7 +88,7 @@ module _ (g : Graph) (sound : IsGraph g) (finite_types : IsAcyclic g.types) wher
           by (Some x) e s = among_mapped (λ (y : ℕ × NodeData). y.0) (nodes_of g) (k, x) (node_among g k x e)
 
       here : alias_cause_at g k ≡ None
-      here = none_found (alias_cause_at g) (finite.keys g.nodes) (aliases_are g sound finite_types ∙ none) k key
+      here = found_none (alias_cause_at g) (finite.keys g.nodes) (aliases_are g sound finite_types ∙ none) k key
 
       go : (o : Option (ℕ × Name)) → first_source g.edges k ≡ o → (b : Bool) → is_value_at g k ≡ b → is_value_at g k ≡ false
       go None e b q = absurd (no_source g.edges k i n e h)

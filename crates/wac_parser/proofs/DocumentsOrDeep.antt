@@ -1,5 +1,5 @@
 -- What has the plain form of a statement or a document is read, or refused as nested too deep.
-use Rattle.std.proofs.Common.{◌≡◌, true, Option, refl, subst}
+use Rattle.std.proofs.Common.{◌≡◌, true, refl}
 use Rattle.wac_parser_lexer.specs.declared.token.Token.TheVariants as k
 use Rattle.wac_parser_lexer.specs.Items.{Input}
 use Rattle.wac_parser_tree.specs.Trees as t
@@ -7,14 +7,13 @@ use Rattle.wac_parser_grammar.specs.Ahead.{same_token, sees_any}
 use Rattle.wac_parser_grammar.specs.Expressions as e
 use Rattle.wac_parser_grammar.specs.Declarations as d
 use Rattle.wac_parser_grammar.specs.Documents as o
-use Rattle.wac_parser_grammar.specs.Forms.{At, Behind}
-use Rattle.wac_parser_grammar.specs.FormsOfDeclarations.{ExternName, ImportType, ImportStatement, LetStatement, ExportOptions, ExportStatement, TypeStatement, Statement, Document}
-use Rattle.wac_parser_grammar.specs.FormDepths.{Ends, FuncEnds, ExpressionEnds, OptionsEnd, AtEnd}
+use Rattle.wac_parser_grammar.specs.FormsOfDeclarations.{ImportType, ImportStatement, LetStatement, ExportStatement, TypeStatement, Statement, Document}
+use Rattle.wac_parser_grammar.specs.FormDepths.{FuncEnds, OptionsEnd, AtEnd}
 use Rattle.wac_parser_grammar.proofs.DocumentLaws.{import_name_exact, export_options_exact, statement_exact, statement_takes, package_directive_exact}
 use Rattle.wac_parser_grammar.proofs.TableBack.{sees_at, any_at, ends_at}
 use Rattle.wac_parser_grammar.proofs.TableBackFuncs.{func_begun}
-use Rattle.wac_parser_grammar.proofs.TableBackChoices.{other, func_ends, behind_back}
-use Rattle.wac_parser_grammar.proofs.TableBackDocuments.{extern_name_back, export_options_back, package_directive_back}
+use Rattle.wac_parser_grammar.proofs.TableBackChoices.{other, func_ends}
+use Rattle.wac_parser_grammar.proofs.TableBackDocuments.{export_options_back, package_directive_back, options_end, import_name_back}
 use Rattle.wac_parser.proofs.OrDeep.{Meets, met, taken, go, at, as_one, next, behind_docs, seeing_any, come, pass, past, any_here, pass_any, docs_met, ident_met, package_path_met}
 use Rattle.wac_parser.proofs.OrDeepLists.{all_met}
 use Rattle.wac_parser.proofs.FuncsOrDeep.{func_type_met}
@@ -33,10 +32,6 @@ import_type_met s (t.ImportType.interface x) r h stop =
     let nx = next h.1.1 in pass_any _ _ nx refl (come _ nx (as_one t.ImportType.interface (inline_interface_met s x r h)))
 import_type_met s (t.ImportType.ident id) r h stop =
     let nx = next h.0 in pass_any _ _ nx refl (pass _ _ nx refl (pass _ _ nx refl (come _ nx (as_one t.ImportType.ident (ident_met h)))))
-
-import_name_back : (s : Input) (x : Option t.ExternName) (r : Input) → Behind k.AsKeyword ExternName x s r → Ends k.AsKeyword r → o.import_name.Is x s r
-unfolding o.import_name
-import_name_back s x r h stop = behind_back k.AsKeyword o.extern_name ExternName extern_name_back s x r h stop
 
 import_statement_met : (s : Input) (x : t.ImportStatement) (r : Input) → ImportStatement x s r → Meets o.import_statement s x r
 unfolding o.import_statement same_token
@@ -61,13 +56,6 @@ let_statement_met s x r h =
     let end = value.2 in
     go _ (docs_met h.1) (go _ (at h.2.1.1) (go _ (ident_met i.1) (go _ (at equals.1.1)
     (go _ (expression_met equals.0 x.expr value.0 value.1 (any_at k.Semicolon e.postfix_first end.0 value.0 r end.1)) (go _ (at end.1) (met refl))))))
-
--- the options, or the semicolon behind them, end an expression
-options_end : (x : t.ExportOptions) (s r m : Input) (span : t.Span) → ExportOptions x s r → At k.Semicolon span r m → ExpressionEnds s
-unfolding same_token
-options_end t.ExportOptions.none s r m span h at = let P : Input → Type 0 = λ (i : Input). ExpressionEnds i in subst P h (any_at k.Semicolon e.postfix_first span r m at)
-options_end (t.ExportOptions.spread mark) s r m span h at = any_at k.Ellipsis e.postfix_first mark s r h
-options_end (t.ExportOptions.rename name) s r m span h at = any_at k.AsKeyword e.postfix_first h.1.0 s h.0 h.1.1
 
 export_statement_met : (s : Input) (x : t.ExportStatement) (r : Input) → ExportStatement x s r → Meets o.export_statement s x r
 unfolding o.export_statement same_token

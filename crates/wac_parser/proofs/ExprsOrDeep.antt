@@ -1,63 +1,23 @@
 -- What has the plain form of an expression is read, or refused as nested too deep.
-use Rattle.std.proofs.Common.{◌≡◌, ℕ, zero, suc, true, false, List, [], ◌∷◌, refl, ap, subst, sym, ◌∙◌}
+use Rattle.std.proofs.Common.{◌≡◌, ℕ, zero, suc, true, [], ◌∷◌, refl, ap, sym, ◌∙◌}
 use Rattle.wac_parser_lexer.specs.declared.token.Token.TheVariants as k
 use Rattle.wac_parser_lexer.specs.Items.{Input}
 use Rattle.wac_parser_tree.specs.Trees as t
-use Rattle.wac_parser_grammar.specs.Ahead.{same_token, sees, sees_any}
-use Rattle.wac_parser_grammar.specs.Rules.{Rule, IsWhile, list_of}
+use Rattle.wac_parser_grammar.specs.Ahead.{same_token, sees_any}
+use Rattle.wac_parser_grammar.specs.Rules.{Rule, list_of}
 use Rattle.wac_parser_grammar.specs.ValueTypes.{through}
 use Rattle.wac_parser_grammar.specs.Expressions as e
-use Rattle.wac_parser_grammar.specs.Forms.{At, Word, ◌⨾◌, Row, Further, Separated, Postfix, Expr, Primary, New, Argument, NamedArgument, Nested, Arguments, FurtherArguments}
+use Rattle.wac_parser_grammar.specs.Forms.{At, Word, ◌⨾◌, Expr, Primary, New, Argument, NamedArgument, Nested, Arguments}
 use Rattle.wac_parser_grammar.specs.FormDepths.{ExpressionEnds, ArgumentEnds}
 use Rattle.wac_parser_grammar.proofs.Exact.{Exact, Takes}
 use Rattle.wac_parser_grammar.proofs.ExactLists.{while_exact}
 use Rattle.wac_parser_grammar.proofs.ExprLaws.{postfix_expr_exact, postfix_expr_takes, instantiation_argument_exact, instantiation_argument_takes, expr_exact, expr_takes}
 use Rattle.wac_parser_grammar.proofs.TableBack.{any_at}
-use Rattle.wac_parser_grammar.proofs.TableBackChoices.{other, no_two}
-use Rattle.wac_parser_grammar.proofs.TableBackExprs.{postfix_expr_back}
+use Rattle.wac_parser_grammar.proofs.TableBackExprs.{unarguments, arguments_again, listed, no_colon, no_access, accesses_back}
 use Rattle.wac_parser.proofs.OrDeep.{Meets, met, taken, go, made, at, as_one, next, come, pass, past, any_here, pass_any, no_room, ident_met, string_met, package_name_met}
 use Rattle.wac_parser.proofs.OrDeepLists.{list_met}
 
--- ---- what follows
-
-postfix_begun : (s : Input) (x : t.PostfixExpr) (r : Input) → Postfix x s r → sees_any e.postfix_first s ≡ true
-unfolding same_token
-postfix_begun s (t.PostfixExpr.access x) r h = any_at k.Dot e.postfix_first h.0 s h.2.0 h.2.1
-postfix_begun s (t.PostfixExpr.named_access x) r h = any_at k.OpenBracket e.postfix_first h.0 s h.3.0 h.3.1
-
-accesses_back : (xs : List t.PostfixExpr) (s r : Input) → Row Postfix xs s r → ExpressionEnds r → IsWhile e.postfix_expr.Is e.postfix_first xs s r
-accesses_back [] s r h stop = let P : Input → Type 0 = λ (i : Input). ExpressionEnds i in (subst P h stop, h)
-accesses_back (x ∷ xs) s r h stop = (postfix_begun s x h.0 h.1, h.0, postfix_expr_back s x h.0 h.1, accesses_back xs h.0 r h.2 stop)
-
-no_colon : (s : Input) → ArgumentEnds s → sees k.Colon s ≡ false
-unfolding same_token
-no_colon s ends = other k.Colon (k.Comma ∷ k.CloseBrace ∷ []) s refl ends
-
-no_access : (s : Input) → ArgumentEnds s → ExpressionEnds s
-unfolding same_token
-no_access s ends =
-    no_two k.Dot k.OpenBracket s (other k.Dot (k.Comma ∷ k.CloseBrace ∷ []) s refl ends) (other k.OpenBracket (k.Comma ∷ k.CloseBrace ∷ []) s refl ends)
-
 -- ---- arguments
-
-unarguments : t.Arguments → List t.InstantiationArgument
-unarguments t.Arguments.no_arguments = []
-unarguments (t.Arguments.argument x xs) = x ∷ unarguments xs
-
-arguments_again : (xs : t.Arguments) → t.arguments (unarguments xs) ≡ xs
-unfolding unarguments
-arguments_again t.Arguments.no_arguments = refl
-arguments_again (t.Arguments.argument x xs) = ap (t.Arguments.argument x) (arguments_again xs)
-
-further_listed : (xs : t.Arguments) (s r : Input) → FurtherArguments xs s r → Further Argument (unarguments xs) s r
-unfolding unarguments
-further_listed t.Arguments.no_arguments s r h = h
-further_listed (t.Arguments.argument x xs) s r h = (h.0, h.1, (h.2.0, h.2.1, further_listed xs h.2.0 r h.2.2))
-
-listed : (xs : t.Arguments) (s r : Input) → Arguments xs s r → Separated Argument (unarguments xs) s r
-unfolding unarguments
-listed t.Arguments.no_arguments s r h = h
-listed (t.Arguments.argument x xs) s r h = (h.0, h.1, further_listed xs h.0 r h.2)
 
 argument_begun : (s : Input) (x : t.InstantiationArgument) (r : Input) → Argument x s r → sees_any e.argument_first s ≡ true
 unfolding same_token

@@ -1,26 +1,20 @@
 -- Lists of values, each read or refused as nested too deep.
-use Rattle.std.proofs.Common.{◌≡◌, ℕ, zero, suc, ◌<◌, ◌≤◌, inl, inr, Bool, true, false, List, [], ◌∷◌, length, Some, Ok, refl, ap, subst, arith}
+use Rattle.std.proofs.Common.{◌≡◌, ℕ, zero, suc, ◌≤◌, inl, inr, Bool, true, false, List, [], ◌∷◌, Some, Ok, refl, ap, subst, arith}
 use Rattle.std.proofs.lemmas.Bool.{false_from_ne_true}
 use Rattle.wac_parser_lexer.specs.declared.token.Token.{Token}
 use Rattle.wac_parser_lexer.specs.declared.token.Token.TheVariants as k
-use Rattle.wac_parser_lexer.specs.Items.{Input, Item}
+use Rattle.wac_parser_lexer.specs.Items.{Input}
 use Rattle.wac_parser_tree.specs.Trees as t
 use Rattle.wac_parser_grammar.specs.Ahead.{same_token, is_any, sees, sees_any}
-use Rattle.wac_parser_grammar.specs.Rules.{Rule, pure, choose, comma, behind, read_list, list_of, IsListOf, read_all, all_of, IsAll, has_item, left}
+use Rattle.wac_parser_grammar.specs.Rules.{Rule, behind, read_list, list_of, IsListOf, read_all, all_of, IsAll, has_item, left}
 use Rattle.wac_parser_grammar.specs.Forms.{Part, At, Row, Further, Separated}
 use Rattle.wac_parser_grammar.proofs.Lists.{begun_some}
 use Rattle.wac_parser_grammar.proofs.Exact.{Exact, Takes, behind_exact, token_takes}
 use Rattle.wac_parser_grammar.proofs.TableLaws.{apart}
 use Rattle.wac_parser_grammar.proofs.TableBack.{seen, behind_end, behind_comma}
+use Rattle.wac_parser_grammar.proofs.TableBackResources.{behind_none}
+use Rattle.wac_parser_grammar.proofs.ExactLists.{some_item}
 use Rattle.wac_parser.proofs.OrDeep.{Meets, met, deep}
-
-none_by : (b : Bool) (m : Input) → (choose b (pure tt) (choose false comma (pure tt))).Is tt m m
-none_by true m = inl (refl, (refl, refl))
-none_by false m = inr (refl, inr (refl, (refl, refl)))
-
-behind_none : (until : Token) (m : Input) → (behind until false).Is tt m m
-unfolding behind
-behind_none until m = (sees until m, m, (refl, refl), none_by (sees until m) m)
 
 module _ {X : Type 0} (p : Rule X) (F : X → Part) (Stops : Input → Type 0) (first : List Token) (until : Token)
     (meets : (s : Input) (x : X) (r : Input) → F x s r → Stops r → Meets p s x r) (begins : (s : Input) (x : X) (r : Input) → F x s r → sees_any first s ≡ true)
@@ -106,10 +100,6 @@ module _ {X : Type 0} (p : Rule X) (F : X → Part) (Stops : Input → Type 0) (
         whole true (x ∷ xs) s r (one_met true (left s) x xs s h.0 r (omega arith) h.1 (further_stops xs h.0 r e span h.2 at) (λ j room. further_met j xs h.0 r e span room h.2 at))
 
 -- ---- to the end
-
-some_item : (items : List Item) → 0 < length items → has_item items ≡ true
-some_item [] h = absurd (omega arith)
-some_item (i ∷ is) h = refl
 
 module _ {X : Type 0} (p : Rule X) (F : X → Part) (first : List Token)
     (meets : (s : Input) (x : X) (r : Input) → F x s r → Meets p s x r) (begins : (s : Input) (x : X) (r : Input) → F x s r → sees_any first s ≡ true)

@@ -1,5 +1,5 @@
 -- What has the plain form of a type is read, or refused as nested too deep.
-use Rattle.std.proofs.Common.{◌≡◌, ℕ, zero, suc, inl, inr, true, List, [], ◌∷◌, Option, Some, None, refl, ap, subst, sym, ◌∙◌}
+use Rattle.std.proofs.Common.{◌≡◌, ℕ, zero, suc, inl, inr, true, ◌∷◌, Option, Some, None, refl, ap, subst, sym, ◌∙◌}
 use Rattle.wac_parser_lexer.specs.declared.span.SourceSpan.{SourceSpan}
 use Rattle.wac_parser_lexer.specs.declared.token.Token.{Token}
 use Rattle.wac_parser_lexer.specs.declared.token.Token.TheVariants as k
@@ -12,7 +12,7 @@ use Rattle.wac_parser_grammar.specs.Forms.{At, Ty, SomeTys, FurtherTys, Omitted,
 use Rattle.wac_parser_grammar.specs.FormDepths.{Ends}
 use Rattle.wac_parser_grammar.proofs.Exact.{Exact, Takes}
 use Rattle.wac_parser_grammar.proofs.TypeLaws.{ty_exact, ty_takes}
-use Rattle.wac_parser_grammar.proofs.TableBack.{any_at, ends_at}
+use Rattle.wac_parser_grammar.proofs.TableBack.{any_at, ends_at, untys, tys_again, second_stop}
 use Rattle.wac_parser_grammar.proofs.TableBackChoices.{other}
 use Rattle.wac_parser.proofs.OrDeep.{Meets, met, go, made, looked, at, as_one, Next, next, opened, closed, come, pass, past, any_here, no_room, ident_met}
 use Rattle.wac_parser.proofs.OrDeepLists.{list_met}
@@ -50,15 +50,6 @@ ty_begun s (t.Ty.ident id) r h = any_at k.Ident v.type_first id.span s r h.0
 
 -- ---- several
 
-untys : t.Tys → List t.Ty
-untys t.Tys.no_more = []
-untys (t.Tys.more ty tys) = ty ∷ untys tys
-
-tys_again : (ts : t.Tys) → t.tys (untys ts) ≡ ts
-unfolding untys
-tys_again t.Tys.no_more = refl
-tys_again (t.Tys.more ty tys) = ap (t.Tys.more ty) (tys_again tys)
-
 further_listed : (ts : t.Tys) (s r : Input) → FurtherTys ts s r → Further Ty (untys ts) s r
 unfolding untys
 further_listed t.Tys.no_more s r h = h
@@ -67,14 +58,6 @@ further_listed (t.Tys.more ty tys) s r h = (h.0, h.1, (h.2.0, h.2.1, further_lis
 some_begun : (ts : t.Tys) (s r : Input) → SomeTys ts s r → sees_any v.type_first s ≡ true
 some_begun t.Tys.no_more s r h = absurd h
 some_begun (t.Tys.more ty tys) s r h = ty_begun s ty h.0 h.1
-
-second_stop : (o : t.MaybeTy) (m r e : Input) (span : t.Span) → Second o m r → At k.CloseAngle span r e → Ends k.OpenAngle m
-unfolding same_token
-second_stop t.MaybeTy.no_ty m r e span h at = elim h [
-  | inl w ↦ ends_at k.Comma k.OpenAngle w.1.0 m w.0 refl w.1.1
-  | inr w ↦ (let P : Input → Type 0 = λ (i : Input). Ends k.OpenAngle i in subst P w (ends_at k.CloseAngle k.OpenAngle span r e refl at))
-]
-second_stop (t.MaybeTy.some_ty ty) m r e span h at = ends_at k.Comma k.OpenAngle h.1.0 m h.0 refl h.1.1
 
 close_ends : (span : t.Span) (s m : Input) → At k.CloseAngle span s m → Ends k.OpenAngle s
 unfolding same_token

@@ -8,15 +8,14 @@ use Rattle.wac_parser_grammar.specs.Ahead.{same_token, is_token, is_any, next_to
 use Rattle.wac_parser_grammar.specs.ValueTypes as v
 use Rattle.wac_parser_grammar.specs.Declarations as d
 use Rattle.wac_parser_grammar.specs.Worlds as w
-use Rattle.wac_parser_grammar.specs.Forms.{At, Word, ◌⨾◌, Row, Braces}
+use Rattle.wac_parser_grammar.specs.Forms.{Word, ◌⨾◌, Row, Braces}
 use Rattle.wac_parser_grammar.specs.FormsOfDeclarations.{Use, InterfaceExport, InterfaceItem, InterfaceDecl, InlineInterface, ExternType, WorldItemPath, WorldImport, WorldExport, WorldInclude, WorldItem, WorldDecl}
 use Rattle.wac_parser_grammar.specs.FormDepths.{Always, FuncEnds, PathEnds}
 use Rattle.wac_parser_grammar.proofs.WorldLaws.{use_types_exact, interface_item_exact, interface_item_takes, world_include_exact, world_item_exact, world_item_takes}
-use Rattle.wac_parser_grammar.proofs.TableBack.{sees_at}
 use Rattle.wac_parser_grammar.proofs.TableBackFuncs.{func_begun}
 use Rattle.wac_parser_grammar.proofs.TableBackChoices.{other, func_ends}
 use Rattle.wac_parser_grammar.proofs.TableBackInterfaces.{use_types_back}
-use Rattle.wac_parser_grammar.proofs.TableBackWorlds.{world_include_back}
+use Rattle.wac_parser_grammar.proofs.TableBackWorlds.{world_include_back, path_ends}
 use Rattle.wac_parser.proofs.OrDeep.{Meets, met, taken, go, at, as_one, next, behind_docs, seeing_any, come, pass, past, any_here, pass_any, docs_met, ident_met, package_path_met}
 use Rattle.wac_parser.proofs.FuncsOrDeep.{func_type_met, func_type_ref_met}
 use Rattle.wac_parser.proofs.DeclsOrDeep.{row_body_met, item_type_decl_met, item_type_decl_begun}
@@ -94,10 +93,6 @@ world_item_path_met s (t.WorldItemPath.named x) r h stop =
     pass _ _ nx refl (come _ nx (go _ (ident_met h.1) (come _ (next h.2.1.1) (as_one t.WorldItemPath.named (item_type_met h.0 x r h.2 stop.0)))))
 world_item_path_met s (t.WorldItemPath.package_path x) r h stop = come _ (next h.0) (as_one t.WorldItemPath.package_path (package_path_met h))
 world_item_path_met s (t.WorldItemPath.ident id) r h stop = let nx = next h.0 in pass _ _ nx refl (come _ nx (go _ (ident_met h) (past k.Colon _ stop.1 (met refl))))
-
-path_ends : (span : t.Span) (s m : Input) → At k.Semicolon span s m → PathEnds s
-unfolding same_token
-path_ends span s m at = (func_ends span s m at, sees_at k.Semicolon k.Colon span s m at)
 
 world_import_met : (s : Input) (x : t.WorldImport) (r : Input) → WorldImport x s r → Meets w.world_import s x r
 unfolding w.world_import

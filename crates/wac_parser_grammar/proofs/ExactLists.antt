@@ -129,7 +129,7 @@ no_item : (items : List Item) → has_item items ≡ false → items ≡ []
 no_item [] e = refl
 no_item (i ∷ is) e = cc
 
-some_item : (items : List Item) → 0 < length items → has_item items ≡ true
+pub some_item : (items : List Item) → 0 < length items → has_item items ≡ true
 some_item [] h = absurd (omega arith)
 some_item (i ∷ is) h = refl
 

@@ -142,11 +142,11 @@ package_path_back s x r h = (
 
 -- ---- types
 
-untys : t.Tys → List t.Ty
+pub untys : t.Tys → List t.Ty
 untys t.Tys.no_more = []
 untys (t.Tys.more ty tys) = ty ∷ untys tys
 
-tys_again : (ts : t.Tys) → t.tys (untys ts) ≡ ts
+pub tys_again : (ts : t.Tys) → t.tys (untys ts) ≡ ts
 unfolding untys
 tys_again t.Tys.no_more = refl
 tys_again (t.Tys.more ty tys) = ap (t.Tys.more ty) (tys_again tys)
@@ -159,7 +159,7 @@ further_stop t.Tys.no_more m r e span h at = elim h [
 ]
 further_stop (t.Tys.more ty tys) m r e span h at = ends_at k.Comma k.OpenAngle h.1.0 m h.0 refl h.1.1
 
-second_stop : (o : t.MaybeTy) (m r e : Input) (span : t.Span) → Second o m r → At k.CloseAngle span r e → Ends k.OpenAngle m
+pub second_stop : (o : t.MaybeTy) (m r e : Input) (span : t.Span) → Second o m r → At k.CloseAngle span r e → Ends k.OpenAngle m
 unfolding same_token
 second_stop t.MaybeTy.no_ty m r e span h at = elim h [
   | inl w ↦ ends_at k.Comma k.OpenAngle w.1.0 m w.0 refl w.1.1

@@ -96,7 +96,7 @@ import_type_back s (t.ImportType.ident id) r fits h stop = (
   ),
 )
 
-import_name_back : (s : Input) (x : Option t.ExternName) (r : Input) → Behind k.AsKeyword ExternName x s r → Ends k.AsKeyword r → o.import_name.Is x s r
+pub import_name_back : (s : Input) (x : Option t.ExternName) (r : Input) → Behind k.AsKeyword ExternName x s r → Ends k.AsKeyword r → o.import_name.Is x s r
 unfolding o.import_name
 import_name_back s x r h stop = behind_back k.AsKeyword o.extern_name ExternName extern_name_back s x r h stop
 
@@ -193,7 +193,7 @@ export_options_back s (t.ExportOptions.rename name) r h stop = (
 )
 
 -- the options, or the semicolon behind them, end an expression
-options_end : (x : t.ExportOptions) (s r m : Input) (span : t.Span) → ExportOptions x s r → At k.Semicolon span r m → ExpressionEnds s
+pub options_end : (x : t.ExportOptions) (s r m : Input) (span : t.Span) → ExportOptions x s r → At k.Semicolon span r m → ExpressionEnds s
 unfolding same_token
 options_end t.ExportOptions.none s r m span h at = let P : Input → Type 0 = λ (i : Input). ExpressionEnds i in subst P h (any_at k.Semicolon e.postfix_first span r m at)
 options_end (t.ExportOptions.spread mark) s r m span h at = any_at k.Ellipsis e.postfix_first mark s r h

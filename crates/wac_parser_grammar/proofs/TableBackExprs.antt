@@ -54,17 +54,17 @@ unfolding same_token
 postfix_begun s (t.PostfixExpr.access x) r h = any_at k.Dot e.postfix_first h.0 s h.2.0 h.2.1
 postfix_begun s (t.PostfixExpr.named_access x) r h = any_at k.OpenBracket e.postfix_first h.0 s h.3.0 h.3.1
 
-accesses_back : (xs : List t.PostfixExpr) (s r : Input) → Row Postfix xs s r → ExpressionEnds r → IsWhile e.postfix_expr.Is e.postfix_first xs s r
+pub accesses_back : (xs : List t.PostfixExpr) (s r : Input) → Row Postfix xs s r → ExpressionEnds r → IsWhile e.postfix_expr.Is e.postfix_first xs s r
 accesses_back [] s r h stop = let P : Input → Type 0 = λ (i : Input). ExpressionEnds i in (subst P h stop, h)
 accesses_back (x ∷ xs) s r h stop = (postfix_begun s x h.0 h.1, h.0, postfix_expr_back s x h.0 h.1, accesses_back xs h.0 r h.2 stop)
 
 -- ---- arguments
 
-unarguments : t.Arguments → List t.InstantiationArgument
+pub unarguments : t.Arguments → List t.InstantiationArgument
 unarguments t.Arguments.no_arguments = []
 unarguments (t.Arguments.argument x xs) = x ∷ unarguments xs
 
-arguments_again : (xs : t.Arguments) → t.arguments (unarguments xs) ≡ xs
+pub arguments_again : (xs : t.Arguments) → t.arguments (unarguments xs) ≡ xs
 unfolding unarguments
 arguments_again t.Arguments.no_arguments = refl
 arguments_again (t.Arguments.argument x xs) = ap (t.Arguments.argument x) (arguments_again xs)
@@ -74,7 +74,7 @@ unfolding unarguments
 further_listed t.Arguments.no_arguments s r h = h
 further_listed (t.Arguments.argument x xs) s r h = (h.0, h.1, (h.2.0, h.2.1, further_listed xs h.2.0 r h.2.2))
 
-listed : (xs : t.Arguments) (s r : Input) → Arguments xs s r → Separated Argument (unarguments xs) s r
+pub listed : (xs : t.Arguments) (s r : Input) → Arguments xs s r → Separated Argument (unarguments xs) s r
 unfolding unarguments
 listed t.Arguments.no_arguments s r h = h
 listed (t.Arguments.argument x xs) s r h = (h.0, h.1, further_listed xs h.0 r h.2)
@@ -90,11 +90,11 @@ arguments_fit depth (t.Arguments.argument x xs) few =
     let b = le-max_right (argument_levels x) (levels_of_arguments xs) in
     (omega (arith, a, few), arguments_fit depth xs (omega (arith, b, few)))
 
-no_colon : (s : Input) → ArgumentEnds s → sees k.Colon s ≡ false
+pub no_colon : (s : Input) → ArgumentEnds s → sees k.Colon s ≡ false
 unfolding same_token
 no_colon s ends = other k.Colon (k.Comma ∷ k.CloseBrace ∷ []) s refl ends
 
-no_access : (s : Input) → ArgumentEnds s → ExpressionEnds s
+pub no_access : (s : Input) → ArgumentEnds s → ExpressionEnds s
 unfolding same_token
 no_access s ends =
     no_two k.Dot k.OpenBracket s (other k.Dot (k.Comma ∷ k.CloseBrace ∷ []) s refl ends) (other k.OpenBracket (k.Comma ∷ k.CloseBrace ∷ []) s refl ends)

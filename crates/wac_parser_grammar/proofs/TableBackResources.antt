@@ -23,7 +23,7 @@ none_by : (b : Bool) (m : Input) → (choose b (pure tt) (choose false comma (pu
 none_by true m = inl (refl, (refl, refl))
 none_by false m = inr (refl, inr (refl, (refl, refl)))
 
-behind_none : (until : Token) (m : Input) → (behind until false).Is tt m m
+pub behind_none : (until : Token) (m : Input) → (behind until false).Is tt m m
 unfolding behind
 behind_none until m = (sees until m, m, (refl, refl), none_by (sees until m) m)
 

@@ -104,7 +104,7 @@ world_item_path_back s (t.WorldItemPath.ident id) r fits h stop = (
   ),
 )
 
-path_ends : (span : t.Span) (s m : Input) → At k.Semicolon span s m → PathEnds s
+pub path_ends : (span : t.Span) (s m : Input) → At k.Semicolon span s m → PathEnds s
 unfolding same_token
 path_ends span s m at = (func_ends span s m at, sees_at k.Semicolon k.Colon span s m at)
 

@@ -8,7 +8,7 @@ use Rattle.wac_types_base.specs.Entries.{Name, value_at, names_of}
 use Rattle.wac_types_base.specs.Graph.{node, Among}
 use Rattle.wac_types_base.specs.Collection as s
 use Rattle.wac_types_base.specs.Collection.{Shape}
-use Rattle.wac_types_base.specs.Stated.{Stated, Kind, IsFunction, IsInstance, IsComponent, IsModule, IsValue, IsResource, IsFunctionType, IsValueType, IsInterface, IsWorld, IsModuleType, shape_kind, type_kind, kind_of, exports_of, imports_of, identifier_of, promote, promote_by, folded_row}
+use Rattle.wac_types_base.specs.Stated.{Stated, Kind, IsFunction, IsInstance, IsComponent, IsModule, IsValue, IsResource, IsFunctionType, IsValueType, IsInterface, IsWorld, IsModuleType, shape_kind, type_kind, kind_of, exports_of, imports_of, identifier_of, promote, promote_by, folded_row, shape_of}
 use Rattle.wac_types_base.specs.Tree.{tree}
 use Rattle.wac_types_base.proofs.Stating.{value_with}
 use Rattle.wac_nesting.specs.Given.{IsDefinition}
@@ -304,10 +304,10 @@ by_kind IsFunctionType i x h = h
 by_kind IsValueType i x h = h
 by_kind IsModuleType i x h = h
 
-typed_definition : (x : Stated) → IsTyped x → IsDefinition (tree (written_definition x))
-typed_definition (node l ts) y =
-    by_kind (kind_of (node l ts)) (identifier_of (node l ts)) (written (node l ts))
-    (subst (λ z. IsDefinition (tree (written_at z (folded_row written_at ts)))) (sym y.1) (written_is y.0 (folded_row written_at ts)))
+pub typed_definition : (x : Stated) (l : Shape) → shape_of x ≡ s.type_of l → IsDefinition (tree (written_definition x))
+typed_definition (node k ts) l e =
+    by_kind (kind_of (node k ts)) (identifier_of (node k ts)) (written (node k ts))
+    (subst (λ z. IsDefinition (tree (written_at z (folded_row written_at ts)))) (sym e) (written_is l (folded_row written_at ts)))
 
 pub is_regular : (ps : Packages) → AreProper (worlds_of ps) → (g : State) → Sound ps g → Formed g → IsRegular (composition g)
 is_regular ps packages g sound f = record {
@@ -317,5 +317,5 @@ is_regular ps packages g sound f = record {
       (λ d n. let r = mapped_among placed_definition g.definitions d n in subst (λ (x : Placed Asker). Proper x.item) (sym r.2) (f.definitions r.0 r.1).is) a m);
   types = λ d m. let r = mapped_among placed_definition g.definitions d m in
       subst (λ (x : Placed Asker). (is_type (kind_of x.item) ≡ true) × IsDefinition (tree (written_definition x.item))) (sym r.2)
-      (typed_kind r.0.1 (f.definitions r.0 r.1).typed, typed_definition r.0.1 (f.definitions r.0 r.1).typed);
+      (let ty = (f.definitions r.0 r.1).typed in (typed_kind r.0.1 ty, typed_definition r.0.1 ty.0 ty.1));
 }

@@ -34,11 +34,11 @@ use Rattle.wac_composition.specs.Renaming.{origin_renamed, placed_renamed, ask_r
 use Rattle.wac_composition.specs.Worlds.{source_of, world_exports as exports_in, composed_world}
 use Rattle.wac_composition.specs.Wired.{source_for, argument_source, instantiation, export_source}
 use Rattle.wac_composition.specs.Sound.{fields_of, maps_of, HasType, of_import, of_instance, of_export, of_definition, given_as, IsBefore, IsGiven, IsSound, IsMade, IsWired}
-use Rattle.wac_composition.proofs.Bound.{wired}
+use Rattle.wac_composition.proofs.Bound.{wired, has_field, field_has, has_none}
 use Rattle.wac_composition.proofs.Lists.{mapped_among}
 use Rattle.wac_composition.proofs.Renamed.{keeps_meaning}
 use Rattle.wac_soundness.specs.Sound.{IsTyped, an_import, an_instance, an_export, a_definition, IsSoundByNumber}
-use Rattle.wac_soundness.proofs.Trees.{has_field, field_has, has_none, moved_gives, moved_states}
+use Rattle.wac_soundness.proofs.Trees.{moved_gives, moved_states}
 use Rattle.wac_soundness.proofs.Listed.{slice_first, slice_behind, slice_either, filter_all, value_kept}
 
 -- what the sources of a composition are, where `IsOf` says of which world an instance is

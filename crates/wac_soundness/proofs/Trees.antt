@@ -1,35 +1,12 @@
--- Named items as maps, and trees of sources whose instances get other names.
-use Rattle.std.specs.Prelude.{option_map}
-use Rattle.std.proofs.Common.{◌≡◌, List, Option, Some, None, refl, sym, ap, ◌∙◌}
-use Rattle.wac_types_base.specs.Entries.{Name, value_at}
-use Rattle.wac_types_base.specs.Stated.{Stated}
-use Rattle.wac_types_base.specs.Tree.{Tree, tree, instance, Fields}
-use Rattle.wac_types_base.specs.Fits.{HasField}
-use Rattle.wac_types_fit.proofs.Looking.{looked-has, has-looked}
-use Rattle.wac_types_fit.proofs.Meeting.{mapped-some}
+-- Trees of sources whose instances get other names.
+use Rattle.std.proofs.Common.{◌≡◌, Option, sym, ap, ◌∙◌}
+use Rattle.wac_types_base.specs.Entries.{Name}
+use Rattle.wac_types_base.specs.Tree.{Tree, instance, Fields}
 use Rattle.wac_graph_bytes.specs.Wirings.{Source, Absent, Outer, Inst, Projection, Bundle, Definition, rename}
-use Rattle.wac_nesting.specs.Given.{World, HasNone, HasTree, Gives, Provides, States}
+use Rattle.wac_nesting.specs.Given.{World, HasTree, Gives, Provides, States}
 use Rattle.wac_nesting.proofs.Given.{project_tree}
-use Rattle.wac_composition.specs.Sound.{fields_of}
-use Rattle.wac_composition.proofs.KeptFits.{fields_ordered, fields_looked}
 
--- ---- maps of named items
-
-pub has_field : (es : List (Name × Stated)) (n : Name) (x : Stated) → value_at es n ≡ Some x → HasField n (tree x) (fields_of es)
-has_field es n x e = looked-has n (tree x) (fields_of es) (fields_looked es n ∙ ap (option_map tree) e)
-
-pub field_has : (es : List (Name × Stated)) (n : Name) (t : Tree) → HasField n t (fields_of es) → (x : Stated) × (value_at es n ≡ Some x) × (tree x ≡ t)
-field_has es n t h = mapped-some tree (value_at es n) t (sym (fields_looked es n) ∙ has-looked n t (fields_of es) (fields_ordered es) h)
-
-pub has_none : (es : List (Name × Stated)) (n : Name) → HasNone n (fields_of es) → value_at es n ≡ None
-has_none es n h = go (value_at es n) refl
-  where
-    go : (o : Option Stated) → value_at es n ≡ o → o ≡ None
-    go None e = refl
-    go (Some x) e = absurd (h (tree x) (has_field es n x e))
-
--- ---- other names for instances, each of which exports the same
-
+-- other names for instances, each of which exports the same
 module _ {I J : Type 0} (outers : Name → Option Tree) (IsOf : I → World → Type 0) (IsOf' : J → World → Type 0) (f : I → J) (h : (k : I) (w : World) → IsOf k w → (v : World) × IsOf' (f k) v × (v.exports ≡ w.exports)) where
   pub moved_tree : (s : Source I) (t : Tree) → HasTree outers IsOf s t → HasTree outers IsOf' (rename f s) t
   moved_tree Absent t e = absurd e

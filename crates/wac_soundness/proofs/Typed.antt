@@ -1,68 +1,21 @@
 -- The stated types of a graph's items: that of a definition is a type, that of an instance is one of an instance.
 use Rattle.std.proofs.lemmas.Option.{none-some, same_Some}
-use Rattle.std.proofs.Common.{◌≡◌, List, true, Option, Some, None, refl, sym, ap, subst, ◌∙◌}
+use Rattle.std.proofs.Common.{◌≡◌, true, Option, Some, None, refl, sym, ap, ◌∙◌}
 use Rattle.wac_types_base.specs.declared.item.«Type».{«Type» as TypeKind}
 use Rattle.wac_types_base.specs.declared.item.ItemKind.{ItemKind}
 use Rattle.wac_types_base.specs.Record.{Collection}
-use Rattle.wac_types_base.specs.Entries.{Name}
-use Rattle.wac_types_base.specs.Graph.{node}
 use Rattle.wac_types_base.specs.Collection as s
 use Rattle.wac_types_base.specs.Collection.{Shape, Entry, Stands, IsAcyclic, item_node, value_node, labelled, entry_at, func_entry, interface_entry, world_entry, module_entry}
-use Rattle.wac_types_base.specs.Stated.{Stated, Kind, IsFunction, IsInstance, IsComponent, IsModule, IsValue, IsResource, IsFunctionType, IsValueType, IsInterface, IsWorld, IsModuleType, shape_of, kind_of, identifier_of, folded_row, stated_of}
+use Rattle.wac_types_base.specs.Stated.{shape_of, kind_of, stated_of}
 use Rattle.wac_types_base.specs.Tree.{tree}
 use Rattle.wac_types_base.proofs.GraphLemmas.{value_of}
 use Rattle.wac_types_base.proofs.Telling.{item_kind, kind_stated, stated_step}
-use Rattle.wac_types_written.specs.Written.{is_type, written, written_at, written_by, written_definition}
+use Rattle.wac_types_written.specs.Written.{is_type, written_definition}
 use Rattle.wac_nesting.specs.Given.{IsDefinition}
 use Rattle.wac_composition.specs.Classes.{is_instance_kind}
 use Rattle.wac_graph_core.specs.Nodes.{IsResource as IsResourceType, IsDefinedType}
 use Rattle.wac_graph_core.specs.Graph.{is_instance}
-
--- ---- the form of a type item
-
-written_is : (l : Shape) (os : List (Option (Stated × Stated))) → IsDefinition (tree (written_at (s.type_of l) os))
-written_is (s.primitive p) os = tt
-written_is s.tuple os = tt
-written_is s.list os = tt
-written_is (s.fixed_size_list n) os = tt
-written_is s.option os = tt
-written_is s.result os = tt
-written_is (s.variant ns) os = tt
-written_is (s.record_of ns) os = tt
-written_is (s.flags ns) os = tt
-written_is (s.enum ns) os = tt
-written_is s.alias os = tt
-written_is s.stream os = tt
-written_is s.future os = tt
-written_is (s.resource n) os = tt
-written_is (s.resource_alias n) os = tt
-written_is (s.func ps a) os = tt
-written_is (s.interface i us es) os = tt
-written_is (s.world i us is es) os = tt
-written_is (s.module_type m) os = tt
-written_is (s.type_of t) os = tt
-written_is (s.borrow_of t) os = tt
-written_is (s.own_of t) os = tt
-
-by_kind : (k : Kind) (i : Option Name) (x : Stated) → IsDefinition (tree x) → IsDefinition (tree (written_by k i x))
-by_kind IsInterface (Some n) x h = tt
-by_kind IsInterface None x h = h
-by_kind IsWorld (Some n) x h = tt
-by_kind IsWorld None x h = h
-by_kind IsFunction i x h = h
-by_kind IsInstance i x h = h
-by_kind IsComponent i x h = h
-by_kind IsModule i x h = h
-by_kind IsValue i x h = h
-by_kind IsResource i x h = h
-by_kind IsFunctionType i x h = h
-by_kind IsValueType i x h = h
-by_kind IsModuleType i x h = h
-
-typed_definition : (x : Stated) (l : Shape) → shape_of x ≡ s.type_of l → IsDefinition (tree (written_definition x))
-typed_definition (node k ts) l e =
-    by_kind (kind_of (node k ts)) (identifier_of (node k ts)) (written (node k ts))
-    (subst (λ z. IsDefinition (tree (written_at z (folded_row written_at ts)))) (sym e) (written_is l (folded_row written_at ts)))
+use Rattle.wac_parser_resolve.proofs.ProperStates.{typed_definition}
 
 -- ---- of a collection
 
