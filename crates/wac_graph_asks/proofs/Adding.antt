@@ -9,7 +9,7 @@ use Rattle.wac_types_base.proofs.Copying.{last_place}
 use Rattle.wac_types_base.proofs.Replacing.{number_same}
 use Rattle.wac_types_fit.proofs.Unfolded.{world_node}
 use Rattle.wac_types_base.specs.Parts.{uses_in_world, imports_in_world, exports_in_world}
-use Rattle.wac_graph_scopes.specs.Parts.{world_in, imports_of}
+use Rattle.wac_types_parts.specs.Parts.{world_in, imports_of}
 use Rattle.wac_graph_asks.specs.Imported.{ImportsAlone}
 use Rattle.wac_graph_asks.specs.Outers.{HasImportsAlone}
 

@@ -20,8 +20,8 @@ use Rattle.wac_types_base.proofs.Lists.{from_place}
 use Rattle.wac_types_written.specs.Forms.{ItemsStand, UsesStand, stated_items}
 use Rattle.wac_types_written.proofs.Ids.{world_children}
 use Rattle.wac_graph_core.specs.Graph.{Graph}
-use Rattle.wac_graph_scopes.specs.Parts.{imports_of}
-use Rattle.wac_graph_scopes.specs.declared.imports.Called.{Called}
+use Rattle.wac_types_parts.specs.Parts.{imports_of}
+use Rattle.wac_types_parts.specs.declared.called.Called.{Called}
 use Rattle.wac_composition.specs.Asks.{Ask, named_asks, asks_of}
 use Rattle.wac_composition.specs.Classes.{class, spelled, spelling}
 use Rattle.wac_composition.specs.Merging.{kept as kept_of, identified}

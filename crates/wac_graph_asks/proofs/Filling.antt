@@ -16,8 +16,8 @@ use Rattle.wac_types_base.proofs.Looked.{take-one_more}
 use Rattle.wac_types_fit.proofs.Items.{world_imports_inside}
 use Rattle.wac_types_names.specs.Packaged.{Packaged}
 use Rattle.wac_graph_core.specs.Graph.{Graph, IsGraph}
-use Rattle.wac_graph_scopes.specs.Parts.{imports_of as imports_at}
-use Rattle.wac_graph_scopes.proofs.PartLaws.{imports_there}
+use Rattle.wac_types_parts.specs.Parts.{imports_of as imports_at}
+use Rattle.wac_types_parts.proofs.PartLaws.{imports_there}
 use Rattle.wac_composition.specs.Composition.{Origin}
 use Rattle.wac_composition.specs.Asks.{ToFill, Ask, filled_asks}
 use Rattle.wac_graph_asks.specs.declared.asks.Asking.{Asking as HeldAsking}

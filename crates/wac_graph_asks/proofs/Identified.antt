@@ -12,7 +12,7 @@ use Rattle.wac_types_base.specs.Stated.{kind_of, stated_of, identifier_of}
 use Rattle.wac_types_base.proofs.Slots.{entry_at-is}
 use Rattle.wac_types_base.proofs.Telling.{item_kind, kind_stated, stated_step}
 use Rattle.wac_composition.specs.Classes.{is_instance_kind}
-use Rattle.wac_writable.proofs.PartsStated.{stands_or_not, stated_nothing}
+use Rattle.wac_types_parts.proofs.PartsStated.{stands_or_not, stated_nothing}
 
 -- ---- identifiers
 

@@ -16,7 +16,7 @@ use Rattle.wac_types_base.proofs.Lists.{among_split}
 use Rattle.wac_types_base.proofs.Stating.{stated_kept}
 use Rattle.wac_types_written.specs.Forms.{ItemsStand}
 use Rattle.wac_graph_core.proofs.Found.{eq_same, eq_false}
-use Rattle.wac_graph_scopes.proofs.OrderLaws.{distinct-append, distinct-apart}
+use Rattle.wac_types_parts.proofs.Lists.{distinct-append, distinct-apart}
 use Rattle.wac_composition.specs.Asks.{Ask}
 use Rattle.wac_composition.specs.Classes.{spelled}
 use Rattle.wac_composition.specs.Merging.{identified}

@@ -12,9 +12,9 @@ use Rattle.wac_types_base.proofs.Standing.{world_found}
 use Rattle.wac_types_base.proofs.Stating.{imports_stated, stated_kept}
 use Rattle.wac_types_base.proofs.Lists.{from_place}
 use Rattle.wac_types_written.specs.Forms.{stated_items}
-use Rattle.wac_graph_scopes.specs.Parts.{imports_of}
-use Rattle.wac_graph_scopes.specs.declared.imports.Called.{Called}
-use Rattle.wac_graph_scopes.proofs.PartLaws.{imports_there}
+use Rattle.wac_types_parts.specs.Parts.{imports_of}
+use Rattle.wac_types_parts.specs.declared.called.Called.{Called}
+use Rattle.wac_types_parts.proofs.PartLaws.{imports_there}
 use Rattle.wac_composition.specs.Asks.{Ask}
 use Rattle.wac_composition.specs.Classes.{spelling}
 use Rattle.wac_graph_asks.specs.Outers.{IsCalled, AreOuters}

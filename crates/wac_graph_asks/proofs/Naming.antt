@@ -18,7 +18,7 @@ use Rattle.wac_types_base.proofs.Replacing.{same_number}
 use Rattle.wac_types_base.proofs.Walking.{slice_get-Among}
 use Rattle.wac_types_base.proofs.Lists.{among_split, there_is, last_among}
 use Rattle.wac_graph_core.proofs.Found.{eq_same}
-use Rattle.wac_graph_scopes.specs.declared.imports.Called.{Called}
+use Rattle.wac_types_parts.specs.declared.called.Called.{Called}
 use Rattle.wac_composition.proofs.Closures.{any_among}
 use Rattle.wac_merging.specs.Labelled.{with_label, each_label}
 use Rattle.wac_graph_asks.specs.declared.asks.Ask.{Ask as HeldAsk}

@@ -20,7 +20,7 @@ use Rattle.wac_graph_core.specs.declared.ids.PackageId.{PackageId}
 use Rattle.wac_graph_core.specs.contracts.ids.PackageIdPartialEq.TheImpl.{eq-value}
 use Rattle.wac_graph_core.specs.Nodes.{NodeData, Role, IsDefinedType, imported_as}
 use Rattle.wac_graph_core.specs.Graph.{Graph, IsGraph, node_at, package_of, package_if}
-use Rattle.wac_graph_scopes.specs.Parts.{imports_of}
+use Rattle.wac_types_parts.specs.Parts.{imports_of}
 use Rattle.wac_composition.specs.Composition.{Placed}
 use Rattle.wac_composition.specs.Asks.{ByName, explicit_ask}
 use Rattle.wac_graph_asks.specs.declared.asks.Asking.{Asking as HeldAsking}

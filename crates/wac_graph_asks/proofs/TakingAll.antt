@@ -26,7 +26,7 @@ use Rattle.wac_merging.specs.Labelled.{labelled, each_label, with_label, AreKept
 use Rattle.wac_merging.proofs.Taking.{taken_stays}
 use Rattle.wac_merging.proofs.Labels.{one_more_labelled}
 use Rattle.wac_merging.proofs.Well.{stated_are_well}
-use Rattle.wac_graph_scopes.proofs.HandleLaws.{take_zero}
+use Rattle.wac_types_parts.proofs.Lists.{take_zero}
 use Rattle.wac_graph_asks.specs.declared.asks.Ask.{Ask as HeldAsk}
 use Rattle.wac_graph_asks.specs.declared.asks.Asking.{Asking as HeldAsking}
 use Rattle.wac_graph_asks.specs.declared.taken.Taken.{Taken}

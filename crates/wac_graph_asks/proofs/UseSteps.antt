@@ -19,15 +19,14 @@ use Rattle.wac_types_base.proofs.Telling.{item_kind}
 use Rattle.wac_types_base.proofs.Standing.{interface_found, is_some-labelled}
 use Rattle.wac_types_fit.specs.Trees.{IsInside}
 use Rattle.wac_types_fit.proofs.Items.{exports_inside}
-use Rattle.wac_graph_scopes.specs.Parts.{exports_of, IsOfInterface}
-use Rattle.wac_graph_scopes.proofs.PartLaws.{uses_there, exports_there}
+use Rattle.wac_types_parts.specs.Parts.{exports_of, IsOfInterface}
+use Rattle.wac_types_parts.proofs.PartLaws.{uses_there, exports_there}
 use Rattle.wac_composition.specs.Asks.{used_by, used_by_kind, used_by_definition}
 use Rattle.wac_graph_asks.specs.declared.asks.Asking.{Asking as HeldAsking}
 use Rattle.wac_graph_asks.specs.declared.asks.Ask.{Ask as HeldAsk}
 use Rattle.wac_graph_asks.specs.AskedUses.{all_with_used, used_directly, used_by_world, used_by_items, use_asks}
 use Rattle.wac_graph_asks.proofs.Using.{instance_uses, interface_uses, identified, interface_definition_uses, world_definition_uses, world_uses_again, other_definition_uses}
-use Rattle.wac_writable.proofs.UnnamedLaws.{same_id}
-use Rattle.wac_writable.proofs.GiverLaws.{any_among}
+use Rattle.wac_types_parts.proofs.Ids.{same_interface, any_interface}
 
 -- ---- what was seen
 
@@ -36,7 +35,7 @@ module _ (id : InterfaceId) (old new : List InterfaceId) (is_new : Bool) (added 
   was_seen h = go (list_any (eq-value.it id) old) refl (sym added ∙ h)
     where
       go : (b : Bool) → list_any (eq-value.it id) old ≡ b → not (list_any (eq-value.it id) old) ≡ false → (new ≡ old) × Among id old
-      go true e h = (keys ∙ ap (λ b. if b then old else old ++ id ∷ []) e, any_among id old e)
+      go true e h = (keys ∙ ap (λ b. if b then old else old ++ id ∷ []) e, any_interface id old e)
       go false e h = absurd (true≢false (sym (ap not e) ∙ h))
 
   pub is_seen : is_new ≡ true → new ≡ old ++ id ∷ []

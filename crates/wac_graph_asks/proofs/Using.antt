@@ -17,7 +17,7 @@ use Rattle.wac_types_base.proofs.GraphLemmas.{value_of}
 use Rattle.wac_types_base.proofs.Slots.{entry_at-is}
 use Rattle.wac_types_base.proofs.Telling.{stated_step, folded_places, item_kind, label_kind, kind_stated}
 use Rattle.wac_types_base.proofs.Stating.{stated_uses, world_uses, world_stated, interface_stated}
-use Rattle.wac_graph_scopes.specs.Parts.{IsOfInterface}
+use Rattle.wac_types_parts.specs.Parts.{IsOfInterface}
 use Rattle.wac_composition.specs.Asks.{below_use, below_parts, used_at, used_by, used_by_kind, used_by_definition}
 use Rattle.wac_graph_asks.specs.AskedUses.{with_used, all_with_used, used_by_world, used_by_items}
 

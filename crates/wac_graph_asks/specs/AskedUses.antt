@@ -10,7 +10,7 @@ use Rattle.wac_types_base.specs.Graph.{Among}
 use Rattle.wac_types_base.specs.Record.{Collection}
 use Rattle.wac_types_base.specs.Collection.{Stands, size_of}
 use Rattle.wac_types_base.specs.Stated.{Stated, stated_of, identifier_of, uses_of as stated_uses}
-use Rattle.wac_graph_scopes.specs.Parts.{uses_of, exports_of}
+use Rattle.wac_types_parts.specs.Parts.{uses_of, exports_of}
 use Rattle.wac_composition.specs.Asks.{Ask, used_by, used_by_definition, asked_for}
 use Rattle.wac_graph_asks.specs.declared.asks.Asking.{Asking as HeldAsking}
 use Rattle.wac_graph_asks.specs.declared.asks.Ask.{Ask as HeldAsk}

@@ -8,8 +8,8 @@ use Rattle.wac_types_base.specs.Graph.{Among}
 use Rattle.wac_types_base.specs.Collection.{Stands}
 use Rattle.wac_types_written.specs.Forms.{stated_items}
 use Rattle.wac_graph_core.specs.Graph.{Graph}
-use Rattle.wac_graph_scopes.specs.Parts.{world_uses_of, imports_of, world_exports_of}
-use Rattle.wac_graph_scopes.specs.declared.imports.Called.{Called}
+use Rattle.wac_types_parts.specs.Parts.{world_uses_of, imports_of, world_exports_of}
+use Rattle.wac_types_parts.specs.declared.called.Called.{Called}
 use Rattle.wac_composition.specs.Asks.{Ask, asks_of}
 use Rattle.wac_composition.specs.Classes.{spelling}
 use Rattle.wac_composition.specs.OuterImports.{outer_imports}

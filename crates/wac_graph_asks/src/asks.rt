@@ -5,7 +5,7 @@ ghost use Rattle.wac_types_base.specs.declared.item.ItemKind.{ItemKind};
 ghost use Rattle.wac_types_base.specs.Collection.{Stands, Grows, size_of, empty};
 ghost use Rattle.wac_types_base.specs.Stated.{stated_of};
 ghost use Rattle.wac_graph_core.specs.Graph.{node_at};
-ghost use Rattle.wac_graph_scopes.specs.Parts.{imports_of};
+ghost use Rattle.wac_types_parts.specs.Parts.{imports_of};
 ghost use Rattle.wac_composition.specs.Asks.{used_by, used_by_definition, asked_for};
 ghost use Rattle.wac_graph_asks.specs.Graphs.{first_export};
 ghost use Rattle.wac_graph_asks.specs.Reads.{is_definition};
@@ -22,9 +22,9 @@ use crate::nodes::{Arguments, import_name, kind_of, node_at, package_of, world_a
 use indexmap::{IndexMap, IndexSet};
 use std::alloc::{AllocError, Global};
 use wac_graph_core::{CompositionGraph, NodeId, NodeKind, PackageId};
-use wac_graph_scopes::parts::{import_at, import_count, interface_of};
 use wac_types_base::copy::copy_item;
 use wac_types_base::{InterfaceId, ItemKind, Text, Type, Types, WorldId};
+use wac_types_parts::parts::{import_at, import_count, interface_of};
 
 /// Why something is asked.
 #[derive(Clone, Copy, PartialEq, Eq)]

@@ -23,7 +23,7 @@ use std::cmp::Ordering;
 use wac_graph_bytes::{NameKind, component_name};
 use wac_types_base::{InterfaceId, ItemKind, NamedMap, Types};
 use wac_types_names::alternate_lookup_key;
-use wac_writable::maps::insert_under;
+use wac_types_parts::maps::insert_under;
 
 /// An asked name: its track with its version, and the identifier of the instance that is asked under it.
 struct Named<'a> {

@@ -3,7 +3,7 @@
 ghost use Rattle.std.specs.Prelude.{◌≡◌, [], IsOk, IfOk};
 ghost use Rattle.wac_types_base.specs.declared.item.ItemKind.{ItemKind};
 ghost use Rattle.wac_types_base.specs.Collection.{Grows, HasChildren, Stands, world_entry};
-ghost use Rattle.wac_graph_scopes.specs.Parts.{imports_of};
+ghost use Rattle.wac_types_parts.specs.Parts.{imports_of};
 ghost use Rattle.wac_graph_asks.specs.Imported.{ImportsAlone};
 ghost use Rattle.wac_graph_asks.specs.Outers.{HasImportsAlone};
 

@@ -13,7 +13,7 @@ use std::marker::Model;
 use wac_graph_core::{CompositionGraph, Node, NodeId, PackageId};
 use wac_types_base::{ItemKind, NamedMap, WorldId};
 use wac_types_names::Package;
-use wac_writable::maps::insert_under;
+use wac_types_parts::maps::insert_under;
 
 pub fn node_at(graph: &CompositionGraph, id: NodeId) -> Option<&Node>
     ensures { option_copied result ≡ node_at graph.now id }

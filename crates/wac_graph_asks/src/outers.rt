@@ -4,8 +4,8 @@ ghost use Rattle.std.specs.Prelude.{◌≡◌, ◌∷◌, ◌++◌, [], IfOk, If
 ghost use Rattle.std.specs.Map.{keys_of};
 ghost use Rattle.wac_types_base.specs.declared.item.ItemKind.{ItemKind};
 ghost use Rattle.wac_types_base.specs.Collection.{Grows, HasChildren, Stands, world_entry};
-ghost use Rattle.wac_graph_scopes.specs.Parts.{imports_of};
-ghost use Rattle.wac_graph_scopes.specs.declared.imports.Called.{Called};
+ghost use Rattle.wac_types_parts.specs.Parts.{imports_of};
+ghost use Rattle.wac_types_parts.specs.declared.called.Called.{Called};
 ghost use Rattle.wac_merging.specs.Kept.{Spells};
 ghost use Rattle.wac_graph_asks.specs.Asked.{KeepsAsked};
 ghost use Rattle.wac_graph_asks.specs.AskedUses.{AskedStand};
@@ -22,10 +22,10 @@ use crate::faults::OuterError;
 use crate::taken::{Taken, all_taken};
 use indexmap::IndexMap;
 use std::alloc::{AllocError, Global};
-use wac_graph_scopes::imports::Called;
 use wac_merging::{Kept, kept_import, see_named};
 use wac_types_base::{ItemKind, NamedMap, Text, Types, World, WorldId};
-use wac_writable::maps::insert_under;
+use wac_types_parts::called::Called;
+use wac_types_parts::maps::insert_under;
 
 /// The outer imports of a composition.
 pub struct Outers {

@@ -24,7 +24,7 @@ use Rattle.wac_types_written.proofs.Loops.{place_new}
 use Rattle.wac_types_written.proofs.Parts.{found_item, found_places, found_use, interface_parts}
 use Rattle.wac_types_written.proofs.Typing.{items_stand_both}
 use Rattle.wac_composition.specs.Circles.{beside, beside_at, is_standing, with_standing_uses}
-use Rattle.wac_graph_scopes.proofs.PartLaws.{identifier_there}
+use Rattle.wac_types_parts.proofs.PartLaws.{identifier_there}
 use Rattle.wac_graph_causes.specs.Beside.{AreBeside, IsBeside, stands_named, standing_uses}
 
 -- neither an instance nor an interface

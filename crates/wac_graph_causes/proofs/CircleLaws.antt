@@ -27,9 +27,9 @@ use Rattle.wac_composition.specs.Conflicts.{Cause, cause_at, late_unwritable}
 use Rattle.wac_composition.proofs.Lists.{mapped_among}
 use Rattle.wac_graph_core.specs.Graph.{Graph}
 use Rattle.wac_graph_core.specs.declared.ids.PackageId.{PackageId}
-use Rattle.wac_graph_scopes.specs.Parts.{imports_of}
+use Rattle.wac_types_parts.specs.Parts.{imports_of}
 use Rattle.wac_writable.specs.declared.writable.Test.{Test}
-use Rattle.wac_writable.proofs.PartsStated.{imports_are}
+use Rattle.wac_types_parts.proofs.PartsStated.{imports_are}
 use Rattle.wac_graph_asks.specs.declared.asks.Definition.{Definition}
 use Rattle.wac_graph_asks.specs.declared.outers.Outers.{Outers}
 use Rattle.wac_graph_asks.specs.AskedUses.{CopiesStand}

@@ -22,10 +22,10 @@ use Rattle.wac_types_written.proofs.Growing.{items_kept}
 use Rattle.wac_types_written.proofs.Ids.{world_imports_stand, world_exports_stand}
 use Rattle.wac_composition.specs.Writable.{has_items}
 use Rattle.wac_composition.specs.Circles.{beside, interfaces_in, stands_in, under, written_from, written_names, exports_written}
-use Rattle.wac_graph_scopes.specs.Parts.{imports_of, world_exports_of}
-use Rattle.wac_graph_scopes.proofs.PartLaws.{imports_there, imports_missing, world_exports_there, world_exports_missing}
+use Rattle.wac_types_parts.specs.Parts.{imports_of, world_exports_of}
+use Rattle.wac_types_parts.proofs.PartLaws.{imports_there, imports_missing, world_exports_there, world_exports_missing}
 use Rattle.wac_writable.proofs.HolderLaws.{has_put}
-use Rattle.wac_writable.proofs.PartsStated.{stands_or_not, imports_are, world_exports_are}
+use Rattle.wac_types_parts.proofs.PartsStated.{stands_or_not, imports_are, world_exports_are}
 use Rattle.wac_graph_causes.specs.declared.late.Late.{Late}
 use Rattle.wac_graph_causes.specs.declared.standing.Standing.{Standing}
 use Rattle.wac_graph_causes.specs.Late.{AddsLate, AreLate, interface_items, is_interface_item, late_in, world_written, written_after, written_beside}

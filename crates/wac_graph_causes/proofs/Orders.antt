@@ -16,9 +16,9 @@ use Rattle.wac_types_base.specs.Stated.{Stated, stated_of, identifier_of}
 use Rattle.wac_types_base.proofs.Loops.{names-with_values}
 use Rattle.wac_types_base.proofs.Stating.{value_with}
 use Rattle.wac_composition.specs.Circles.{put, written_names, used_names}
-use Rattle.wac_graph_scopes.specs.Parts.{interface_in}
+use Rattle.wac_types_parts.specs.Parts.{interface_in}
 use Rattle.wac_writable.proofs.HolderLaws.{has_append, has_put}
-use Rattle.wac_writable.proofs.PartsStated.{identifier_is}
+use Rattle.wac_types_parts.proofs.PartsStated.{identifier_is}
 use Rattle.wac_graph_causes.specs.declared.order.Sources.{Sources}
 use Rattle.wac_graph_causes.specs.declared.order.Order.{Order}
 use Rattle.wac_graph_causes.specs.Orders.{AddsUsed, IsBegun, Puts, PutsAll, spell_in, interfaces_stated, import_names_of}

@@ -12,9 +12,9 @@ use Rattle.wac_types_base.proofs.Stating.{stated_uses}
 use Rattle.wac_composition.specs.Writable.{is_fresh, root_of, holder, with_roots, unwritable, outer_unwritable}
 use Rattle.wac_composition.specs.Writable.{Holder as Held}
 use Rattle.wac_composition.specs.NotWritten.{component_holder}
-use Rattle.wac_graph_scopes.specs.Parts.{imports_of}
+use Rattle.wac_types_parts.specs.Parts.{imports_of}
 use Rattle.wac_writable.specs.Tests.{IsFirst}
-use Rattle.wac_writable.proofs.PartsStated.{world_uses_are, imports_are, world_exports_are}
+use Rattle.wac_types_parts.proofs.PartsStated.{world_uses_are, imports_are, world_exports_are}
 use Rattle.wac_graph_asks.specs.Outers.{HasImportsAlone}
 use Rattle.wac_graph_causes.specs.declared.errors.Unwritten.{Unwritten}
 use Rattle.wac_graph_causes.specs.Unwritable.{TellsName, TellsImport, TellsUnwritable, outer_cause}

@@ -12,7 +12,7 @@ use Rattle.wac_types_base.proofs.Lists.{among_last, among_mapped, name_tested, p
 use Rattle.wac_types_base.proofs.Looked.{among-get, take-one_more}
 use Rattle.wac_composition.specs.Asks.{Ask}
 use Rattle.wac_composition.specs.Classes.{class, spelled, spelling}
-use Rattle.wac_graph_scopes.specs.declared.imports.Called.{Called}
+use Rattle.wac_types_parts.specs.declared.called.Called.{Called}
 use Rattle.wac_graph_asks.specs.Outers.{AreOuters}
 use Rattle.wac_graph_causes.specs.Spelling.{NotesCalled, Spells, SpellsSeen, SpellsAll}
 use Rattle.wac_graph_causes.specs.Standing.{spelled_in}

@@ -17,9 +17,9 @@ use Rattle.wac_types_base.proofs.Standing.{interface_found}
 use Rattle.wac_types_base.proofs.Telling.{item_kind, kind_stated, stated_step, folded_places}
 use Rattle.wac_types_base.proofs.Stating.{interface_stated}
 use Rattle.wac_composition.specs.Circles.{used_inside, used_inside_at, used_in_parts}
-use Rattle.wac_graph_scopes.specs.Parts.{exports_of, uses_of, IsOfInterface}
-use Rattle.wac_graph_scopes.proofs.PartLaws.{uses_there, uses_missing, exports_there, exports_missing}
-use Rattle.wac_writable.proofs.PartsStated.{stands_or_not, stated_nothing}
+use Rattle.wac_types_parts.specs.Parts.{exports_of, uses_of, IsOfInterface}
+use Rattle.wac_types_parts.proofs.PartLaws.{uses_there, uses_missing, exports_there, exports_missing}
+use Rattle.wac_types_parts.proofs.PartsStated.{stands_or_not, stated_nothing}
 use Rattle.wac_graph_asks.proofs.UseSteps.{instance_stands}
 use Rattle.wac_graph_causes.specs.Orders.{interfaces_used, used_in_items}
 

@@ -23,8 +23,8 @@ use Rattle.wac_types_written.proofs.Ids.{IsOther, interface_states, interface_ty
 use Rattle.wac_types_written.proofs.Loops.{append_assoc}
 use Rattle.wac_types_written.proofs.Parts.{found_item, found_places, interface_parts, world_parts}
 use Rattle.wac_composition.specs.Circles.{Imports, imports_inside, imports_inside_at, in_items, in_world}
-use Rattle.wac_graph_scopes.proofs.PartLaws.{imports_there}
-use Rattle.wac_writable.proofs.PartsStated.{stated_nothing}
+use Rattle.wac_types_parts.proofs.PartLaws.{imports_there}
+use Rattle.wac_types_parts.proofs.PartsStated.{stated_nothing}
 use Rattle.wac_graph_causes.specs.Inside.{AddsWorlds, WorldsStand, inside_items, world_imports}
 
 -- ---- interfaces and worlds

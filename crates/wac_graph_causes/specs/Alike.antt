@@ -5,7 +5,7 @@ use Rattle.wac_types_base.specs.Entries.{Name, names_of}
 use Rattle.wac_types_names.specs.Packaged.{Packaged}
 use Rattle.wac_graph_core.specs.declared.ids.PackageId.{PackageId}
 use Rattle.wac_graph_core.specs.Graph.{Graph, package_of}
-use Rattle.wac_graph_scopes.specs.Parts.{imports_of}
+use Rattle.wac_types_parts.specs.Parts.{imports_of}
 use Rattle.wac_composition.specs.Conflicts.{Cause, ImportNames, ExportNames, version_name, lower, twins, alike, name_cause}
 use Rattle.wac_graph_asks.specs.declared.asks.Asked.{Asked}
 use Rattle.wac_graph_asks.specs.declared.outers.Outers.{Outers}

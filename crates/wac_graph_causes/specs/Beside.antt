@@ -9,7 +9,7 @@ use Rattle.wac_types_base.specs.Parts.{identifier_in}
 use Rattle.wac_types_base.specs.Stated.{stated_of}
 use Rattle.wac_types_written.specs.Forms.{IsOf, ItemsStand, stated_items}
 use Rattle.wac_composition.specs.Circles.{beside, is_standing}
-use Rattle.wac_graph_scopes.specs.Parts.{interface_in}
+use Rattle.wac_types_parts.specs.Parts.{interface_in}
 
 module _ (stands : Name → Bool) where
   -- the item is what the other was, with the uses of those interfaces alone that stand

@@ -16,7 +16,7 @@ use Rattle.wac_composition.specs.Asks.{Ask}
 use Rattle.wac_composition.specs.Classes.{spelling}
 use Rattle.wac_composition.specs.Circles.{written_whole, written_package}
 use Rattle.wac_composition.specs.Conflicts.{Cause, late_unwritable, outers_written}
-use Rattle.wac_graph_scopes.specs.Parts.{imports_of}
+use Rattle.wac_types_parts.specs.Parts.{imports_of}
 use Rattle.wac_writable.specs.declared.writable.Test.{Test}
 use Rattle.wac_writable.specs.Unnamed.{KnowsAll}
 use Rattle.wac_graph_asks.specs.declared.asks.Definition.{Definition}

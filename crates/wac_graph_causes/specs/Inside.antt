@@ -10,7 +10,7 @@ use Rattle.wac_types_base.specs.Collection.{Stands}
 use Rattle.wac_types_base.specs.Stated.{Stated, stated_of}
 use Rattle.wac_types_written.specs.Forms.{stated_items}
 use Rattle.wac_composition.specs.Circles.{Imports, imports_inside}
-use Rattle.wac_graph_scopes.specs.Parts.{imports_of}
+use Rattle.wac_types_parts.specs.Parts.{imports_of}
 
 abbrev pub world_imports : Collection → WorldId → List (Name × Stated)
 world_imports c w = stated_items c (imports_of c w)

@@ -10,7 +10,7 @@ use Rattle.wac_types_base.specs.Collection.{Stands}
 use Rattle.wac_types_base.specs.Stated.{Stated, stated_of}
 use Rattle.wac_types_written.specs.Forms.{stated_items}
 use Rattle.wac_composition.specs.Circles.{beside, interfaces_written, under, written_from}
-use Rattle.wac_graph_scopes.specs.Parts.{imports_of}
+use Rattle.wac_types_parts.specs.Parts.{imports_of}
 use Rattle.wac_graph_causes.specs.declared.late.Late.{Late}
 use Rattle.wac_graph_causes.specs.declared.standing.Standing.{Standing}
 use Rattle.wac_graph_causes.specs.Standing.{spelled_in, stands_by}

@@ -9,7 +9,7 @@ use Rattle.wac_types_base.specs.Entries.{Name, has_name}
 use Rattle.wac_types_base.specs.Stated.{Stated, stated_of, identifier_of}
 use Rattle.wac_types_written.specs.Forms.{stated_items}
 use Rattle.wac_composition.specs.Circles.{used_inside, put}
-use Rattle.wac_graph_scopes.specs.Parts.{uses_of}
+use Rattle.wac_types_parts.specs.Parts.{uses_of}
 use Rattle.wac_graph_causes.specs.declared.order.Sources.{Sources}
 use Rattle.wac_graph_causes.specs.declared.order.Order.{Order}
 use Rattle.wac_graph_causes.specs.Standing.{spelled_in}

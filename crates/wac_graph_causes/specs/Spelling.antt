@@ -5,8 +5,8 @@ use Rattle.wac_types_base.specs.declared.item.ItemKind.{ItemKind}
 use Rattle.wac_types_base.specs.Record.{Collection}
 use Rattle.wac_types_base.specs.Entries.{Name, value_at, put_entry}
 use Rattle.wac_types_base.specs.Graph.{Among}
-use Rattle.wac_graph_scopes.specs.Parts.{imports_of}
-use Rattle.wac_graph_scopes.specs.declared.imports.Called.{Called}
+use Rattle.wac_types_parts.specs.Parts.{imports_of}
+use Rattle.wac_types_parts.specs.declared.called.Called.{Called}
 
 -- what is kept under a name is its spelling, and each of these names has something kept
 pub record Spells (spell : Name → Name) (called : List Called) (es : List (Name × Name)) : Type 0 where

@@ -17,7 +17,7 @@ use Rattle.wac_composition.specs.OuterImports.{outer_imports}
 use Rattle.wac_composition.specs.Writable.{holder, outer_unwritable, definition_unwritable, package_unwritable, alias_unwritable}
 use Rattle.std.specs.Option.{option_or}
 use Rattle.wac_composition.specs.Conflicts.{Cause, Unwritable, first_found, cause_at, unwritable_cause}
-use Rattle.wac_graph_scopes.specs.Parts.{imports_of}
+use Rattle.wac_types_parts.specs.Parts.{imports_of}
 use Rattle.wac_writable.specs.Unnamed.{KnowsAll}
 use Rattle.wac_writable.specs.Holders.{Holds}
 use Rattle.wac_graph_asks.specs.declared.asks.Asked.{Asked}

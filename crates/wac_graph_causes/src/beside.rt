@@ -13,10 +13,10 @@ ghost use Rattle.wac_graph_causes.specs.Standing.{stands_by};
 
 use crate::standing::Standing;
 use std::alloc::{AllocError, Global};
-use wac_graph_scopes::parts::identifier;
 use wac_types_base::{
     Interface, InterfaceId, ItemKind, NamedMap, Type, Types, UsedType, copy_text,
 };
+use wac_types_parts::parts::identifier;
 
 // ---- uses
 

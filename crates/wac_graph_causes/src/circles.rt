@@ -7,7 +7,7 @@ ghost use Rattle.wac_types_base.specs.Collection.{Grows, Stands};
 ghost use Rattle.wac_types_base.specs.Stated.{stated_of};
 ghost use Rattle.wac_types_written.specs.Forms.{ItemsStand, stated_items};
 ghost use Rattle.wac_composition.specs.Circles.{exports_written, written_inside, written_whole, written_package};
-ghost use Rattle.wac_graph_scopes.specs.Parts.{imports_of};
+ghost use Rattle.wac_types_parts.specs.Parts.{imports_of};
 ghost use Rattle.wac_writable.specs.Unnamed.{KnowsAll};
 ghost use Rattle.wac_graph_asks.specs.AskedUses.{CopiesStand};
 ghost use Rattle.wac_graph_causes.specs.Late.{AddsLate, AreLate, world_written};
@@ -27,8 +27,8 @@ use std::alloc::{AllocError, Global};
 use wac_graph_asks::asks::Definition;
 use wac_graph_asks::outers::Outers;
 use wac_graph_core::{CompositionGraph, PackageId};
-use wac_graph_scopes::parts::Item;
 use wac_types_base::{ItemKind, NamedMap, Types, WorldId, copy_items};
+use wac_types_parts::parts::Item;
 use wac_writable::unnamed::Unnamed;
 use wac_writable::writable::{Test, is_unwritable_alone};
 

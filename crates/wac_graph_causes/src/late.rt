@@ -6,7 +6,7 @@ ghost use Rattle.wac_types_base.specs.Entries.{AreDistinct, IsNew, names_of, put
 ghost use Rattle.wac_types_base.specs.Collection.{Grows, Stands};
 ghost use Rattle.wac_types_base.specs.Stated.{stated_of};
 ghost use Rattle.wac_types_written.specs.Forms.{ItemsStand, stated_items};
-ghost use Rattle.wac_graph_scopes.specs.Parts.{imports_of, world_exports_of};
+ghost use Rattle.wac_types_parts.specs.Parts.{imports_of, world_exports_of};
 ghost use Rattle.wac_composition.specs.Circles.{exports_written, written_names};
 ghost use Rattle.wac_graph_causes.specs.Late.{AddsLate, AreLate, interface_items, is_interface_item};
 ghost use Rattle.wac_graph_causes.specs.Late.{world_written, written_after, written_beside};
@@ -16,8 +16,8 @@ use crate::beside::beside;
 use crate::order::{Sources, text_of, written_names};
 use crate::standing::Standing;
 use std::alloc::{AllocError, Global};
-use wac_graph_scopes::parts::{import_at, import_count};
 use wac_types_base::{ItemKind, NamedMap, Names, Text, Type, Types, WorldId};
+use wac_types_parts::parts::{import_at, import_count};
 
 /// An interface as it is written, under the name that is told where it cannot be.
 #[derive(Drop)]

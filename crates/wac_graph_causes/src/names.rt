@@ -16,10 +16,10 @@ use wac_graph_asks::asks::Asked;
 use wac_graph_asks::nodes::package_at;
 use wac_graph_asks::outers::Outers;
 use wac_graph_core::{CompositionGraph, PackageId};
-use wac_graph_scopes::parts::{import_at, import_count};
 use wac_names::ValidationFault;
 use wac_types_base::{NamedMap, Text};
 use wac_types_names::Package;
+use wac_types_parts::parts::{import_at, import_count};
 
 // ---- the name of a package
 

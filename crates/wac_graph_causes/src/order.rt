@@ -3,17 +3,17 @@
 ghost use Rattle.std.specs.Prelude.{◌≡◌, ◌∷◌, [], ◌++◌, IfOk, OnOk};
 ghost use Rattle.wac_types_base.specs.declared.item.ItemKind.{ItemKind};
 ghost use Rattle.wac_types_base.specs.Stated.{stated_of};
-ghost use Rattle.wac_graph_scopes.specs.Parts.{uses_of, exports_of};
+ghost use Rattle.wac_types_parts.specs.Parts.{uses_of, exports_of};
 ghost use Rattle.wac_composition.specs.Circles.{used_inside, written_names, used_names};
 ghost use Rattle.wac_graph_causes.specs.Orders.{AddsUsed, AddsUseAt, Puts, PutsAll, interfaces_used, spell_in, used_in_items, interfaces_stated};
 ghost use Rattle.wac_types_base.specs.Entries.{names_of, put_name, value_at};
 
 use crate::standing::spelled;
 use std::alloc::{AllocError, Global};
-use wac_graph_scopes::parts::{
+use wac_types_base::{InterfaceId, ItemKind, NamedMap, Names, Text, Types};
+use wac_types_parts::parts::{
     export_at, export_count, identifier, interface_of, use_at, use_count,
 };
-use wac_types_base::{InterfaceId, ItemKind, NamedMap, Names, Text, Types};
 
 /// Interfaces that are imported, by the names of their imports, and the names of the imports that are asked under names.
 #[derive(Clone, Copy)]

@@ -5,10 +5,10 @@ ghost use Rattle.wac_graph_causes.specs.Spelling.{NotesCalled, SpellsAll};
 
 use crate::order::text_of;
 use std::alloc::{AllocError, Global};
-use wac_graph_scopes::imports::Called;
-use wac_graph_scopes::parts::import_at;
 use wac_types_base::{NamedMap, Text, Types, WorldId};
-use wac_writable::maps::insert_under;
+use wac_types_parts::called::Called;
+use wac_types_parts::maps::insert_under;
+use wac_types_parts::parts::import_at;
 
 /// Keeps the name of the import that is called so.
 fn add_called(

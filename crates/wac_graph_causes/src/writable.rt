@@ -1,7 +1,7 @@
 //! Types that cannot be written.
 
 ghost use Rattle.std.specs.Prelude.{◌≡◌, ◌≤◌, None, OnOk, IfOk, IfErr, length};
-ghost use Rattle.wac_graph_scopes.specs.Parts.{imports_of};
+ghost use Rattle.wac_types_parts.specs.Parts.{imports_of};
 ghost use Rattle.wac_graph_causes.specs.Unwritable.{TellsName, TellsUnwritable, is_value_item, is_value_at, alias_cause, alias_cause_at};
 ghost use Rattle.wac_graph_causes.specs.Unwritable.{TellsImport, OutersPass, TellsOuterCause};
 ghost use Rattle.wac_graph_causes.specs.Unwritable.{PackagePasses, TellsPackageAt, PackagesPass, TellsPackageCause};
@@ -16,8 +16,8 @@ use wac_graph_asks::asks::{Asked, Definition};
 use wac_graph_asks::nodes::kind_of;
 use wac_graph_asks::outers::Outers;
 use wac_graph_core::{CompositionGraph, NodeId, PackageId};
-use wac_graph_scopes::parts::{Item, import_at};
 use wac_types_base::{ItemKind, Types, WorldId};
+use wac_types_parts::parts::{Item, import_at};
 use wac_writable::holder::Holder;
 use wac_writable::unnamed::Unnamed;
 use wac_writable::writable::{

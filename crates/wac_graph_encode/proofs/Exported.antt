@@ -23,7 +23,7 @@ use Rattle.wac_types_written.proofs.Ids.{world_states}
 use Rattle.wac_types_written.proofs.Loops.{place_new}
 use Rattle.wac_types_written.proofs.Shapes.{world_by_parts}
 use Rattle.wac_graph_core.specs.Graph.{Graph}
-use Rattle.wac_graph_scopes.specs.Parts.{imports_of}
+use Rattle.wac_types_parts.specs.Parts.{imports_of}
 use Rattle.wac_graph_scopes.proofs.WritingLaws.{value_here}
 use Rattle.wac_composition.specs.Asks.{asks_of}
 use Rattle.wac_composition.specs.OuterImports.{outer_imports}

@@ -27,9 +27,9 @@ use Rattle.wac_graph_core.specs.Edges.{HasAlias, alias_edge}
 use Rattle.wac_graph_core.specs.contracts.ids.NodeIdPartialEq.TheImpl as node
 use Rattle.wac_graph_core.specs.Nodes.{NodeData, Role, imported_as}
 use Rattle.wac_graph_core.specs.Graph.{GivesExport, Graph, IsGraph, is_instance, node_at}
-use Rattle.wac_graph_scopes.specs.Parts.{exports_of as exports_in, imports_of}
-use Rattle.wac_graph_scopes.specs.declared.imports.Called.{Called}
-use Rattle.wac_graph_scopes.proofs.PartLaws.{exports_there}
+use Rattle.wac_types_parts.specs.Parts.{exports_of as exports_in, imports_of}
+use Rattle.wac_types_parts.specs.declared.called.Called.{Called}
+use Rattle.wac_types_parts.proofs.PartLaws.{exports_there}
 use Rattle.wac_graph_scopes.proofs.WritingLaws.{value_here}
 use Rattle.wac_composition.specs.Classes.{is_instance_kind as one_of}
 use Rattle.wac_composition.specs.Composition.{Origin, imported, instance, projected, defined}

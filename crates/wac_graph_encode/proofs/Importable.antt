@@ -13,7 +13,8 @@ use Rattle.wac_types_names.specs.Packaged.{Packaged}
 use Rattle.wac_names.specs.ComponentNames.{IsDependency}
 use Rattle.wac_graph_core.specs.declared.ids.PackageId.{PackageId}
 use Rattle.wac_graph_core.specs.Graph.{Graph, IsGraph, package_of, package_if, package_made, instantiated}
-use Rattle.wac_graph_scopes.proofs.OrderLaws.{distinct-apart, distinct-right}
+use Rattle.wac_types_parts.proofs.Lists.{distinct-apart}
+use Rattle.wac_graph_scopes.proofs.OrderLaws.{distinct-right}
 use Rattle.wac_composition.specs.Asks.{asks_of}
 use Rattle.wac_composition.specs.OuterImports.{outer_imports}
 use Rattle.wac_composition.specs.Conflicts.{Cause, ImportNames, alike as alike_names, each_once, lower, name_cause, twins}

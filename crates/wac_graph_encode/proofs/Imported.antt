@@ -22,7 +22,7 @@ use Rattle.wac_graph_bytes.specs.Wirings.{Tag, OfDependency, Source}
 use Rattle.wac_graph_bytes.specs.Meaning.{Listed, is_package, is_package_of, wiring_of}
 use Rattle.wac_graph_core.specs.declared.ids.PackageId.{PackageId}
 use Rattle.wac_graph_core.specs.Graph.{Graph, IsGraph, package_of, package_if, package_made, instantiated}
-use Rattle.wac_graph_scopes.proofs.OrderLaws.{distinct-append}
+use Rattle.wac_types_parts.proofs.Lists.{distinct-append}
 use Rattle.wac_composition.specs.Conflicts.{dependency_name}
 use Rattle.wac_composition.proofs.Clashing.{name_found}
 use Rattle.wac_composition.proofs.KeptFits.{value_append, value_behind}

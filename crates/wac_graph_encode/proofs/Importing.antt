@@ -21,7 +21,7 @@ use Rattle.wac_graph_bytes.specs.Meaning.{State}
 use Rattle.wac_graph_core.specs.declared.ids.PackageId.{PackageId}
 use Rattle.wac_graph_core.specs.contracts.ids.PackageIdPartialEq.TheImpl as package_id
 use Rattle.wac_graph_core.specs.Graph.{Graph}
-use Rattle.wac_graph_scopes.specs.declared.imports.Called.{Called}
+use Rattle.wac_types_parts.specs.declared.called.Called.{Called}
 use Rattle.wac_graph_scopes.specs.declared.imports.ImportScope.{ImportScope}
 use Rattle.wac_graph_scopes.specs.declared.imports.SortIndex.{SortIndex}
 use Rattle.wac_graph_scopes.specs.declared.items.ItemScope.{ItemScope}

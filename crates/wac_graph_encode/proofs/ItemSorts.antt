@@ -20,8 +20,8 @@ use Rattle.wac_graph_bytes.specs.declared.value.Sort.{Sort}
 use Rattle.wac_graph_bytes.specs.declared.value.Sort.TheVariants as sort
 use Rattle.wac_graph_core.proofs.Items.{import_stands}
 use Rattle.wac_graph_scopes.specs.Items.{sort_of}
-use Rattle.wac_graph_scopes.specs.Parts.{imports_of}
-use Rattle.wac_graph_scopes.proofs.PartLaws.{imports_there}
+use Rattle.wac_types_parts.specs.Parts.{imports_of}
+use Rattle.wac_types_parts.proofs.PartLaws.{imports_there}
 use Rattle.wac_graph_scopes.proofs.UsedLaws.{root_of}
 
 abbrev shape_sort : Shape → Option Sort

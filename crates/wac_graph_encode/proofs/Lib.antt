@@ -34,3 +34,5 @@ pub mod Provided
 pub mod Preparing
 pub mod Refusing
 pub mod Circling
+pub mod CoreRefused
+pub mod StockLaws

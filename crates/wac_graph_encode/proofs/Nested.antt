@@ -21,7 +21,7 @@ use Rattle.wac_graph_core.specs.Graph.{Graph, IsGraph, node_at, package_of, pack
 use Rattle.wac_graph_scopes.specs.declared.imports.SortIndex.{SortIndex}
 use Rattle.wac_graph_scopes.specs.declared.imports.ImportScope.{ImportScope}
 use Rattle.wac_graph_scopes.specs.Roots.{root_entries, alias_entry, alias_export}
-use Rattle.wac_graph_scopes.proofs.OrderLaws.{distinct-append}
+use Rattle.wac_types_parts.proofs.Lists.{distinct-append}
 use Rattle.wac_composition.proofs.Closures.{any_among, among_any}
 use Rattle.wac_graph_asks.specs.Graphs.{nodes_of}
 use Rattle.wac_graph_asks.specs.Asked.{package_ids, with_id, with_ids}

@@ -17,8 +17,8 @@ use Rattle.wac_graph_core.specs.Edges.{HasAlias, HasArgument, alias_edge}
 use Rattle.wac_graph_core.specs.Walking.{first_argument, first_source}
 use Rattle.wac_graph_core.specs.Graph.{Graph, IsGraph, instantiated, item_import, node_at, package_if, package_made, package_of}
 use Rattle.wac_graph_core.proofs.Found.{no_argument, no_source}
-use Rattle.wac_graph_scopes.specs.declared.imports.Called.{Called}
-use Rattle.wac_graph_scopes.specs.Parts.{imports_of}
+use Rattle.wac_types_parts.specs.declared.called.Called.{Called}
+use Rattle.wac_types_parts.specs.Parts.{imports_of}
 use Rattle.wac_composition.specs.Asks.{ToFill}
 use Rattle.wac_composition.specs.Conflicts.{Cause}
 use Rattle.wac_composition.proofs.Clashing.{name_found}

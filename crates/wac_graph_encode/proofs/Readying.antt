@@ -22,9 +22,9 @@ use Rattle.wac_graph_core.specs.Edges.{AreKeyed, HasAlias, HasArgument, alias_ed
 use Rattle.wac_graph_core.specs.Walking.{first_argument}
 use Rattle.wac_graph_core.specs.Graph.{Graph, IsGraph, ContainsNode, ContainsPackage, instantiated, node_at, package_if, package_made, package_of}
 use Rattle.wac_graph_core.proofs.Found.{argument_found, no_argument}
-use Rattle.wac_graph_scopes.specs.declared.imports.Called.{Called}
+use Rattle.wac_types_parts.specs.declared.called.Called.{Called}
 use Rattle.wac_graph_scopes.specs.Items.{sort_of}
-use Rattle.wac_graph_scopes.specs.Parts.{imports_of}
+use Rattle.wac_types_parts.specs.Parts.{imports_of}
 use Rattle.wac_graph_asks.specs.Reads.{AreArguments, import_name_of, is_defined, is_definition, package_id_of}
 use Rattle.wac_graph_asks.proofs.ByNode.{entry_there}
 use Rattle.wac_graph_causes.specs.Unwritable.{is_value_at, is_value_in, is_value_item}

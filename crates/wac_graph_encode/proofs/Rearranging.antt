@@ -16,8 +16,8 @@ use Rattle.wac_graph_scopes.specs.declared.imports.SortIndex.{SortIndex}
 use Rattle.wac_graph_scopes.specs.Orders.{IsOrder}
 use Rattle.wac_graph_scopes.specs.Imports.{names_at}
 use Rattle.wac_graph_scopes.proofs.WritingLaws.{among_has}
-use Rattle.wac_graph_scopes.proofs.OrderLaws.{distinct-append}
-use Rattle.wac_graph_scopes.proofs.PartLaws.{name_at}
+use Rattle.wac_types_parts.proofs.Lists.{distinct-append}
+use Rattle.wac_types_parts.proofs.PartLaws.{name_at}
 use Rattle.wac_graph_scopes.proofs.ImportLaws.{named_place, one_place}
 use Rattle.wac_graph_encode.specs.Standing.{AreFirst, Rearranges}
 use Rattle.wac_graph_encode.specs.Writing.{IsExportOf, AddsExport, AddsExports, other_exports, exports_at}

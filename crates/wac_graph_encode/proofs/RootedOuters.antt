@@ -20,10 +20,10 @@ use Rattle.wac_types_fit.proofs.Ordering.{tree_in_order}
 use Rattle.wac_graph_bytes.specs.Typing.{Worlds, Item, Inside}
 use Rattle.wac_graph_core.specs.Nodes.{NodeData, Role}
 use Rattle.wac_graph_core.specs.Graph.{Graph, IsGraph, node_at}
-use Rattle.wac_graph_scopes.specs.declared.imports.Called.{Called}
+use Rattle.wac_types_parts.specs.declared.called.Called.{Called}
 use Rattle.wac_graph_scopes.specs.declared.imports.SortIndex.{SortIndex}
 use Rattle.wac_graph_scopes.specs.declared.imports.ImportScope.{ImportScope}
-use Rattle.wac_graph_scopes.specs.Parts.{imports_of}
+use Rattle.wac_types_parts.specs.Parts.{imports_of}
 use Rattle.wac_graph_scopes.specs.Imports.{ArePlaced, WritesWorld}
 use Rattle.wac_graph_scopes.specs.Roots.{at_root}
 use Rattle.wac_graph_scopes.proofs.WritingLaws.{value_here}

@@ -24,7 +24,7 @@ use Rattle.wac_graph_bytes.proofs.Steps.{bind_some, some_is}
 use Rattle.wac_graph_scopes.specs.declared.items.ItemScope.{ItemScope}
 use Rattle.wac_graph_scopes.specs.declared.imports.ImportScope.{ImportScope}
 use Rattle.wac_graph_scopes.specs.declared.imports.SortIndex.{SortIndex}
-use Rattle.wac_graph_scopes.specs.Parts.{imports_of}
+use Rattle.wac_types_parts.specs.Parts.{imports_of}
 use Rattle.wac_graph_scopes.specs.Imports.{ArePlaced, WritesWorld}
 use Rattle.wac_graph_scopes.specs.Items.{IsItemScope}
 use Rattle.wac_graph_scopes.specs.Roots.{root_entries, root_exports, alias_entry, if_new, has_no_export, at_root, HaveSources, IsEarly, ReadsWith}

@@ -19,7 +19,7 @@ use Rattle.wac_graph_core.specs.Walking.{first_argument}
 use Rattle.wac_graph_core.specs.Graph.{Graph, IsGraph, instantiated, item_import}
 use Rattle.wac_graph_core.specs.GraphWiring as wired
 use Rattle.wac_graph_core.proofs.Found.{argument_found}
-use Rattle.wac_graph_scopes.specs.declared.imports.Called.{Called}
+use Rattle.wac_types_parts.specs.declared.called.Called.{Called}
 use Rattle.wac_composition.specs.Asks.{ToFill, Ask, explicit_ask, filled_asks, named_asks, asks_of}
 use Rattle.wac_composition.proofs.Bound.{among_passing}
 use Rattle.wac_composition.proofs.Lists.{flat_among}

@@ -23,7 +23,7 @@ use Rattle.wac_graph_core.specs.Graph.{Graph, item_import, imported_in}
 use Rattle.wac_graph_core.specs.GraphWiring as wired
 use Rattle.wac_graph_core.proofs.Found.{eq_same}
 use Rattle.wac_types_base.specs.Parts.{imports_in_world}
-use Rattle.wac_graph_scopes.specs.Parts.{imports_of, world_in}
+use Rattle.wac_types_parts.specs.Parts.{imports_of, world_in}
 use Rattle.wac_graph_scopes.specs.declared.imports.SortIndex.{SortIndex}
 use Rattle.wac_graph_encode.specs.declared.root.Counts.{Counts}
 use Rattle.wac_graph_encode.specs.Standing.{spelled, by_number, IsInstanceOf, IsWritten, IsGivenAt, argument, outer}

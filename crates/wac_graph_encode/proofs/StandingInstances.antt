@@ -29,8 +29,8 @@ use Rattle.wac_graph_core.specs.Graph.{Graph, IsGraph, node_at, instantiated, pa
 use Rattle.wac_graph_core.specs.GraphWiring as wired
 use Rattle.wac_graph_core.proofs.Found.{Among-front}
 use Rattle.wac_graph_scopes.specs.declared.imports.SortIndex.{SortIndex}
-use Rattle.wac_graph_scopes.specs.Parts.{imports_of}
-use Rattle.wac_graph_scopes.proofs.OrderLaws.{distinct-append}
+use Rattle.wac_types_parts.specs.Parts.{imports_of}
+use Rattle.wac_types_parts.proofs.Lists.{distinct-append}
 use Rattle.wac_graph_encode.specs.declared.root.Counts.{Counts}
 use Rattle.wac_graph_encode.specs.Encoding.{tag_of}
 use Rattle.wac_graph_encode.specs.Standing as standing

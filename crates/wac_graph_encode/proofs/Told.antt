@@ -12,8 +12,8 @@ use Rattle.wac_types_base.specs.Graph.{Among}
 use Rattle.wac_types_base.proofs.Adding.{Among-left, Among-right}
 use Rattle.wac_types_base.proofs.Lists.{among_last}
 use Rattle.wac_graph_core.specs.contracts.ids.NodeIdPartialEq.TheImpl as node
-use Rattle.wac_graph_scopes.specs.Parts.{imports_of}
-use Rattle.wac_graph_scopes.specs.declared.imports.Called.{Called}
+use Rattle.wac_types_parts.specs.Parts.{imports_of}
+use Rattle.wac_types_parts.specs.declared.called.Called.{Called}
 use Rattle.wac_graph_asks.specs.declared.asks.Definition.{Definition}
 use Rattle.wac_graph_encode.specs.Worlds.{AreCalledTypes, AreDefinitionTypes, IsCalledType, IsDefinitionType, TellsCalled, told_called, told_definition, NotesDefinition}
 use Rattle.wac_graph_encode.proofs.Entries.{same_node}

@@ -26,7 +26,7 @@ use Rattle.wac_graph_core.specs.contracts.ids.NodeIdPartialEq.TheImpl as node
 use Rattle.wac_graph_core.proofs.Found.{argument_found, no_argument, same_name}
 use Rattle.wac_types_fit.proofs.Items.{differs, value_at-among, name-among}
 use Rattle.wac_graph_scopes.specs.declared.imports.SortIndex.{SortIndex}
-use Rattle.wac_graph_scopes.specs.declared.imports.Called.{Called}
+use Rattle.wac_types_parts.specs.declared.called.Called.{Called}
 use Rattle.wac_graph_encode.specs.declared.instances.Wired.{Wired}
 use Rattle.wac_graph_encode.specs.declared.instances.Standing.{Standing}
 use Rattle.wac_graph_asks.specs.Reads.{AreArguments}

@@ -12,3 +12,4 @@ pub mod Beginning
 pub mod Refused
 pub mod Worlds
 pub mod Importing
+pub mod Stocked

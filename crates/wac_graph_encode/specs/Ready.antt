@@ -10,10 +10,10 @@ use Rattle.wac_graph_core.specs.Nodes.{NodeData}
 use Rattle.wac_graph_core.specs.Edges.{HasAlias}
 use Rattle.wac_graph_core.specs.Walking.{first_argument}
 use Rattle.wac_graph_core.specs.Graph.{Graph, ContainsNode, ContainsPackage, instantiated, node_at, package_of}
-use Rattle.wac_graph_scopes.specs.declared.imports.Called.{Called}
+use Rattle.wac_types_parts.specs.declared.called.Called.{Called}
 use Rattle.wac_graph_scopes.specs.declared.imports.SortIndex.{SortIndex}
 use Rattle.wac_graph_scopes.specs.Items.{sort_of}
-use Rattle.wac_graph_scopes.specs.Parts.{imports_of}
+use Rattle.wac_types_parts.specs.Parts.{imports_of}
 use Rattle.wac_graph_asks.specs.Reads.{import_name_of, is_definition, package_id_of}
 use Rattle.wac_graph_causes.specs.Unwritable.{is_value_at}
 use Rattle.wac_graph_encode.specs.declared.root.Root.{Root}

@@ -20,7 +20,7 @@ use Rattle.wac_graph_scopes.specs.declared.items.ItemScope.{ItemScope}
 use Rattle.wac_graph_scopes.specs.declared.imports.Importing.{Importing}
 use Rattle.wac_graph_scopes.specs.declared.imports.ImportScope.{ImportScope}
 use Rattle.wac_graph_scopes.specs.Items.{IsItemScope, IsEntryOf}
-use Rattle.wac_graph_scopes.specs.Parts.{imports_of}
+use Rattle.wac_types_parts.specs.Parts.{imports_of}
 use Rattle.wac_graph_scopes.specs.Imports.{ArePlaced, DescribesIn, WritesWorld, WritesOn, WritesAllImports}
 use Rattle.wac_graph_scopes.specs.Roots.{HaveSources, ReadsWith, root_entries, root_exports}
 use Rattle.wac_graph_encode.specs.declared.declarations.Early.{Early}

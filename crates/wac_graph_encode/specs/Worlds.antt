@@ -15,8 +15,8 @@ use Rattle.indexmap.specs.IndexMap.{insert_entry}
 use Rattle.wac_graph_core.specs.contracts.ids.NodeIdPartialEq.TheImpl as node
 use Rattle.wac_graph_core.specs.Nodes.{NodeData, Role}
 use Rattle.wac_graph_core.specs.Graph.{Graph, is_instance, node_at}
-use Rattle.wac_graph_scopes.specs.Parts.{imports_of}
-use Rattle.wac_graph_scopes.specs.declared.imports.Called.{Called}
+use Rattle.wac_types_parts.specs.Parts.{imports_of}
+use Rattle.wac_types_parts.specs.declared.called.Called.{Called}
 use Rattle.wac_composition.specs.Asks.{asks_of}
 use Rattle.wac_composition.specs.Worlds.{exported_type, final_type, used_world}
 use Rattle.wac_graph_asks.specs.declared.asks.Definition.{Definition}

@@ -5,7 +5,7 @@ ghost use Rattle.wac_types_base.specs.Entries.{AreDistinct, names_of, value_at};
 ghost use Rattle.wac_types_base.specs.Graph.{Among};
 ghost use Rattle.wac_graph_bytes.specs.Views.{arguments_view};
 ghost use Rattle.wac_graph_core.specs.Graph.{ContainsNode, IsOfKind};
-ghost use Rattle.wac_graph_scopes.specs.Parts.{imports_of};
+ghost use Rattle.wac_types_parts.specs.Parts.{imports_of};
 ghost use Rattle.wac_graph_asks.specs.Reads.{AreArguments};
 ghost use Rattle.wac_graph_scopes.specs.Items.{sort_of};
 ghost use Rattle.wac_graph_encode.specs.Beginning.{IsBare};
@@ -22,10 +22,11 @@ use std::alloc::{AllocError, Global};
 use wac_graph_asks::nodes::{Arguments, import_name, kind_of, package_of, world_at};
 use wac_graph_bytes::{Entry, NamedIndex, Sort, SortNames};
 use wac_graph_core::{CompositionGraph, NodeId, PackageId};
-use wac_graph_scopes::imports::{Called, SortIndex};
-use wac_graph_scopes::parts::{import_at, import_count};
+use wac_graph_scopes::imports::SortIndex;
 use wac_types_base::{ItemKind, NamedMap, Types, WorldId};
-use wac_writable::maps::insert_under;
+use wac_types_parts::called::Called;
+use wac_types_parts::maps::insert_under;
+use wac_types_parts::parts::{import_at, import_count};
 
 /// The entries so far, and what stands for nodes.
 pub(crate) struct Wired<'a> {

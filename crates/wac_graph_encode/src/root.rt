@@ -34,10 +34,10 @@ use wac_graph_core::{CompositionGraph, NodeId, PackageId};
 use wac_graph_scopes::fault::WriteError;
 use wac_graph_scopes::imports::{ImportScope, Importing, SortIndex};
 use wac_graph_scopes::items::ItemScope;
-use wac_graph_scopes::parts::Item;
 use wac_graph_scopes::scope::KnownTypes;
 use wac_graph_scopes::worlds::describe_package;
 use wac_types_base::{DefinedTypeId, ItemKind, NamedMap, Text, Type, Types, ValueType, WorldId};
+use wac_types_parts::parts::Item;
 
 /// How many things of each sort stand there.
 #[derive(Clone, Copy)]

@@ -4,9 +4,9 @@ use std::alloc::{AllocError, Global};
 use wac_graph_asks::asks::Asked;
 use wac_graph_asks::nodes::{Arguments, package_of};
 use wac_graph_core::{CompositionGraph, NodeId};
-use wac_graph_scopes::parts::{Use, identifier, import_named, world_use_at, world_use_count};
 use wac_types_base::{NamedMap, Text, Types, UsedType, WorldId};
-use wac_writable::maps::insert_under;
+use wac_types_parts::maps::insert_under;
+use wac_types_parts::parts::{Use, identifier, import_named, world_use_at, world_use_count};
 
 /// Adds a use, unless one gives its name. That of an interface without identifier is left out, since nothing is
 /// imported of it.

@@ -8,7 +8,7 @@ ghost use Rattle.wac_types_base.specs.Entries.{Name, value_at};
 ghost use Rattle.wac_types_written.specs.Forms.{ItemsStand};
 ghost use Rattle.wac_graph_core.specs.Edges.{HasAlias};
 ghost use Rattle.wac_graph_core.specs.Graph.{ContainsNode};
-ghost use Rattle.wac_graph_scopes.specs.Parts.{exports_of, imports_of};
+ghost use Rattle.wac_types_parts.specs.Parts.{exports_of, imports_of};
 ghost use Rattle.wac_graph_encode.specs.Encoding.{HasTrueWorld};
 ghost use Rattle.wac_graph_encode.specs.Worlds.{AddsExported, AreCalledTypes, AreCopies, AreDefinitionTypes, AreExported, IsToHandOut, IsWorldMade, NotesDefinition};
 ghost use Rattle.wac_graph_encode.specs.Worlds.{IsUsedWorld, KnowsFinals, TellsCalled, TellsCopied, TellsExported, TellsFinal, with_import};
@@ -21,10 +21,10 @@ use wac_graph_asks::asks::{Asked, Definition};
 use wac_graph_asks::nodes::{import_name, kind_of};
 use wac_graph_asks::outers::Outers;
 use wac_graph_core::{CompositionGraph, NodeId};
-use wac_graph_scopes::imports::Called;
-use wac_graph_scopes::parts::{export_named, import_at, import_count};
 use wac_types_base::{ItemKind, NamedMap, Types, World, WorldId};
-use wac_writable::maps::insert_under;
+use wac_types_parts::called::Called;
+use wac_types_parts::maps::insert_under;
+use wac_types_parts::parts::{export_named, import_at, import_count};
 
 /// The types of outer imports, by the names under which they are asked for, and of definitions as they are written.
 struct Finals {

@@ -13,11 +13,11 @@ use Rattle.wac_types_base.proofs.Lists.{name_tested}
 use Rattle.wac_types_base.proofs.Looked.{take-one_more}
 use Rattle.std.proofs.lemmas.List.{map_push, length-take-le}
 use Rattle.std.proofs.lemmas.Option.{slice_get_within}
-use Rattle.wac_graph_scopes.specs.declared.imports.Called.{Called}
+use Rattle.wac_types_parts.specs.declared.called.Called.{Called}
 use Rattle.wac_graph_scopes.specs.declared.imports.Importing.{Importing}
 use Rattle.wac_graph_scopes.specs.declared.imports.ImportScope.{ImportScope}
-use Rattle.wac_graph_scopes.specs.declared.parts.Use.{Use}
-use Rattle.wac_graph_scopes.specs.Parts.{interface_in, exports_of, world_uses_of, IsUseNamed, used_if, taken_in}
+use Rattle.wac_types_parts.specs.declared.parts.Use.{Use}
+use Rattle.wac_types_parts.specs.Parts.{interface_in, exports_of, world_uses_of, IsUseNamed, used_if, taken_in}
 use Rattle.wac_graph_scopes.specs.Used.{IsUsedAs}
 use Rattle.wac_graph_scopes.specs.Items.{Never}
 use Rattle.wac_graph_scopes.specs.Imports.{IsUseOf, IsInstanceImport, called_places, own_places, FindsFirst, IsImportedAs, IsFoundFor}

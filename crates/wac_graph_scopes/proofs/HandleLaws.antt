@@ -25,18 +25,7 @@ use Rattle.wac_graph_scopes.proofs.ScopeLaws.{Goes-refl}
 use Rattle.wac_graph_scopes.proofs.FormLaws.{own_reads, borrow_reads, index_reads}
 use Rattle.wac_graph_scopes.proofs.ValueLaws.{value_defined}
 
-pub take_zero : {X : Type 0} (xs : List X) → take 0 xs ≡ []
-take_zero [] = refl
-take_zero (x ∷ xs) = refl
-
 -- ---- resources
-
-pub root_is : (c : Collection) → IsAcyclic c → (r s : ResourceId) (x : Resource) → IsRootOf c r s → Stands c (ItemKind.Ty (TypeKind.Resource s)) → Stands c (ItemKind.Ty (TypeKind.Resource r))
-    → tree_of c (ItemKind.Ty (TypeKind.Resource s)) ≡ tree_of c (ItemKind.Ty (TypeKind.Resource r)) → slice_get c.resources s.index ≡ Some x → s.collection ≡ c.number
-    → tree_in c (ItemKind.Ty (TypeKind.Resource r)) ≡ rigid (resource x.name) end
-root_is c acyclic r s x end_of there stands e at own =
-    sym (same_tree c acyclic (ItemKind.Ty (TypeKind.Resource s)) (ItemKind.Ty (TypeKind.Resource r)) there stands e)
-    ∙ root_tree c acyclic s x at own (root_no_alias c acyclic end_of x at)
 
 module _ (w : Worlds) (c : Collection) (outer : List Scope) (i : Inside) (acyclic : IsAcyclic c) (id : ResourceId) (s u : TypeScope) (r k : ℕ) (n : Name) where
   pub own_written : Stands c (ItemKind.Value (ValueType.Own id)) → IsScope w c outer i s → type_at w (i.here ∷ outer) r ≡ Some (tree_in c (ItemKind.Ty (TypeKind.Resource id))) → tree_in c (ItemKind.Ty (TypeKind.Resource id)) ≡ rigid (resource n) end

@@ -50,15 +50,16 @@ use Rattle.wac_graph_scopes.specs.declared.imports.Importing.{Importing}
 use Rattle.wac_graph_scopes.specs.declared.imports.ImportScope.{ImportScope}
 use Rattle.wac_graph_scopes.specs.Scopes.{Extends, GoesOn, AreKnown, Exchanges}
 use Rattle.wac_types_base.specs.Parts.{exports_in}
-use Rattle.wac_graph_scopes.specs.Parts.{interface_in, exports_of, imports_of, world_exports_of, IsUsedKind, IsOfWorld}
+use Rattle.wac_types_parts.specs.Parts.{interface_in, exports_of, imports_of, world_exports_of, IsUsedKind, IsOfWorld}
 use Rattle.wac_graph_scopes.specs.Items.{IsItemScope, ItemsGo, GivesType, ExportsItem, ExportsIndex, IsInstanceAt, IsTypeItem, IsUsedType, AreUsed, IsSorted, Describes, IsTreeOf, AreTreesOf, StatesComponent, described_as}
 use Rattle.wac_graph_scopes.specs.Imports.{NoneWritten, IsImportAt, ArePlaced, WritesWorld, WritesOn, IsSource, HasAlias, HasExported, DescribesIn, DescribesApart, ImportsItem, names_at, IsNewAt, BeginsWorld}
 use Rattle.wac_graph_scopes.proofs.ScopeLaws.{Extends-refl, Extends-trans, Extends-one, all_known_kept}
 use Rattle.wac_graph_scopes.proofs.ItemLaws.{used_on, item_exchanged, ItemsGo-refl}
 use Rattle.wac_graph_scopes.proofs.UsedLaws.{plain_item}
-use Rattle.wac_graph_scopes.proofs.PartLaws.{imports_there, world_exports_there, name_at}
+use Rattle.wac_types_parts.proofs.PartLaws.{imports_there, world_exports_there, name_at}
 use Rattle.wac_graph_scopes.proofs.FieldLaws.{same_look, written_fields}
-use Rattle.wac_graph_scopes.proofs.OrderLaws.{apart, distinct-append, distinct-apart}
+use Rattle.wac_graph_scopes.proofs.OrderLaws.{apart}
+use Rattle.wac_types_parts.proofs.Lists.{distinct-append, distinct-apart}
 use Rattle.wac_graph_scopes.specs.Orders.{IsOrder}
 use Rattle.wac_graph_scopes.proofs.WritingLaws.{writes_on, writes_more, value_here}
 

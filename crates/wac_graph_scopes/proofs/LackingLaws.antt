@@ -24,7 +24,7 @@ use Rattle.wac_types_fit.specs.Checking.{value_in}
 use Rattle.wac_graph_scopes.specs.declared.scope.TypeScope.{TypeScope}
 use Rattle.wac_graph_scopes.specs.declared.lacking.Lacking.{Lacking}
 use Rattle.wac_graph_scopes.specs.Refusals.{IsUnnamed, Dangles, own_dangles, borrow_dangles, part_dangles, PartDangles, IsWhole, AreLacking, NoneDangles}
-use Rattle.wac_graph_scopes.proofs.PrintLaws.{same_id}
+use Rattle.wac_types_parts.proofs.Ids.{same_type as same_id}
 
 -- ---- what is made of nothing but a resource has no value types in its places
 

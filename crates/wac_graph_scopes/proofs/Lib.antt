@@ -8,14 +8,12 @@ pub mod EntryLaws
 pub mod HandleLaws
 pub mod LackingLaws
 pub mod ExportLaws
-pub mod InsideLaws
 pub mod KnownLaws
 pub mod CoreLaws
 pub mod CoreRefusals
 pub mod RefusedLaws
 pub mod FieldLaws
 pub mod ItemLaws
-pub mod PartLaws
 pub mod UsedNames
 pub mod UsedLaws
 pub mod OrderLaws

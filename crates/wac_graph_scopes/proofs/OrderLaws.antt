@@ -12,19 +12,13 @@ use Rattle.wac_types_base.specs.Graph.{Among}
 use Rattle.wac_types_base.specs.Entries.{Name, AreDistinct}
 use Rattle.wac_types_base.proofs.Adding.{Among-left, Among-right}
 use Rattle.wac_types_base.proofs.Lists.{among_split}
+use Rattle.wac_types_parts.proofs.Lists.{distinct-append}
 use Rattle.wac_graph_bytes.proofs.Steps.{get_kept, get_last}
 use Rattle.wac_graph_scopes.specs.declared.imports.Importing.{Importing}
 use Rattle.wac_graph_scopes.specs.declared.order.Turn.{Turn}
-use Rattle.wac_graph_scopes.specs.Parts.{IsOfInterface}
+use Rattle.wac_types_parts.specs.Parts.{IsOfInterface}
 use Rattle.wac_graph_scopes.specs.Imports.{all_imports}
 use Rattle.wac_graph_scopes.specs.Orders.{IsOrder, IsBegun, Puts, IsSource, AreTurns, EarlyFirst, SourcesFirst}
-
-pub distinct-append : {X : Type 0} (xs ys : List X) → AreDistinct xs → AreDistinct ys → ((x : X) → Among x xs → Among x ys → ⊥) → AreDistinct (xs ++ ys)
-distinct-append [] ys d e h = e
-distinct-append (x ∷ xs) ys d e h = (
-  λ m. elim (among_split x xs ys m) [ inl a ↦ d.0 a | inr b ↦ h x (inl refl) b ],
-  distinct-append xs ys d.1 e (λ y a b. h y (inr a) b),
-)
 
 pub distinct-left : {X : Type 0} (xs ys : List X) → AreDistinct (xs ++ ys) → AreDistinct xs
 distinct-left [] ys d = tt
@@ -33,11 +27,6 @@ distinct-left (x ∷ xs) ys d = (λ m. d.0 (Among-left x xs ys m), distinct-left
 pub distinct-right : {X : Type 0} (xs ys : List X) → AreDistinct (xs ++ ys) → AreDistinct ys
 distinct-right [] ys d = d
 distinct-right (x ∷ xs) ys d = distinct-right xs ys d.1
-
-pub distinct-apart : {X : Type 0} (x : X) (xs ys : List X) → AreDistinct (xs ++ ys) → Among x xs → Among x ys → ⊥
-distinct-apart x [] ys d m n = m
-distinct-apart x (y ∷ xs) ys d (inl e) n = d.0 (Among-right y xs ys (subst (λ (z : _). Among z ys) e n))
-distinct-apart x (y ∷ xs) ys d (inr m) n = distinct-apart x xs ys d.1 m n
 
 module _ (old mid new : List Bool) (order between ordered : List ℕ) where
   pub Puts-refl : Puts old old order order

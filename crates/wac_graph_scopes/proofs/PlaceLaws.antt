@@ -3,7 +3,7 @@ use Rattle.std.proofs.Common.{rules, ◌≡◌, ◌↔◌, ℕ, ◌+◌, ◌<◌
 use Rattle.std.specs.Prelude.{slice_get, nat_eq, IfNone, IfSome, ◌⊎◌, is_some}
 use Rattle.std.proofs.lemmas.Bool.{cases_eq}
 use Rattle.std.specs.Map.{lookup}
-use Rattle.wac_types_base.specs.contracts.ids.DefinedTypeIdPartialEq.TheImpl.{eq-value}
+use Rattle.wac_types_base.specs.contracts.item.ValueTypePartialEq.TheImpl.{eq-value}
 use Rattle.wac_types_base.specs.contracts.ids.ResourceIdPartialEq.TheImpl.{eq-value as same_resource}
 use Rattle.wac_types_base.specs.declared.ids.DefinedTypeId.{DefinedTypeId}
 use Rattle.wac_types_base.specs.declared.ids.ResourceId.{ResourceId}
@@ -22,10 +22,9 @@ use Rattle.wac_graph_bytes.proofs.Steps.{get_kept, get_last}
 use Rattle.wac_graph_scopes.specs.declared.scope.KnownType.{KnownType}
 use Rattle.wac_graph_scopes.specs.declared.scope.KnownTypes.{KnownTypes}
 use Rattle.wac_graph_scopes.specs.declared.scope.TypeScope.{TypeScope}
-use Rattle.wac_graph_scopes.specs.Prints.{tree_print, type_print, ArePrints}
+use Rattle.wac_graph_scopes.specs.Prints.{tree_print, value_print, ArePrints}
 use Rattle.wac_graph_scopes.specs.Known.{type_tree, HasPlace, FindsPrint, HasPrint, ArePlaces, HasId, HasTree, IsFound, DiffersAt, KeepsKnown}
 use Rattle.wac_graph_scopes.specs.Scopes.{IsEntry, IsScope, IsScopeOf, KeepsScope}
-use Rattle.wac_graph_scopes.proofs.PrintLaws.{same_id}
 use Rattle.wac_graph_scopes.proofs.ScopeLaws.{scope_known}
 
 -- ---- going on
@@ -51,60 +50,63 @@ tree_on c xs ys t a h = (h.0, a h.0 h.1, h.2, h.3)
 -- what is found stays found
 pub found_on : (c : Collection) (xs ys : List KnownType) (id : DefinedTypeId) → KeepsKnown xs ys → IsFound c xs id → IsFound c ys id
 found_on c xs ys id a (inl h) = inl (h.0, a h.0 h.1, h.2)
-found_on c xs ys id a (inr h) = inr (tree_on c xs ys (type_tree c id) a h)
+found_on c xs ys id a (inr h) = inr (tree_on c xs ys (type_tree c (ValueType.Defined id)) a h)
 
 -- ---- the places
 
+same_id : (a b : ValueType) → IsTrue (eq-value.it a b) ↔ (a ≡ b)
+same_id a b = search rules
+
 -- of a type that is remembered
-place_more : (old new : List (DefinedTypeId × ℕ)) (ks : List KnownType) (k : KnownType) (at : ℕ) → at ≡ length ks → ((x : DefinedTypeId) → lookup (eq-value.it x) new ≡ cond (eq-value.it k.id x) (Some at) (lookup (eq-value.it x) old))
-    → (x : KnownType) → Among x ks ⊎ (x ≡ k) → ((y : KnownType) → Among y ks → HasPlace old ks y.id) → HasPlace new (ks ++ k ∷ []) x.id
-place_more old new ks k at end updates x m h = by (eq-value.it k.id x.id) refl m
+place_more : (old new : List (ValueType × ℕ)) (ks : List KnownType) (k : KnownType) (at : ℕ) → at ≡ length ks → ((x : ValueType) → lookup (eq-value.it x) new ≡ cond (eq-value.it k.ty x) (Some at) (lookup (eq-value.it x) old))
+    → (x : KnownType) → Among x ks ⊎ (x ≡ k) → ((y : KnownType) → Among y ks → HasPlace old ks y.ty) → HasPlace new (ks ++ k ∷ []) x.ty
+place_more old new ks k at end updates x m h = by (eq-value.it k.ty x.ty) refl m
   where
-    at_last : k.id ≡ x.id → eq-value.it k.id x.id ≡ true → HasPlace new (ks ++ k ∷ []) x.id
+    at_last : k.ty ≡ x.ty → eq-value.it k.ty x.ty ≡ true → HasPlace new (ks ++ k ∷ []) x.ty
     at_last same q = record {
       place = at;
       there = k;
-      found = updates x.id ∙ ap (λ (b : Bool). cond b (Some at) (lookup (eq-value.it x.id) old)) q;
+      found = updates x.ty ∙ ap (λ (b : Bool). cond b (Some at) (lookup (eq-value.it x.ty) old)) q;
       stands = get_last ks k at end;
       same = same;
     }
 
-    by : (b : Bool) → eq-value.it k.id x.id ≡ b → Among x ks ⊎ (x ≡ k) → HasPlace new (ks ++ k ∷ []) x.id
-    by true q m = at_last ((same_id k.id x.id).0 q) q
-    by false q (inr e) = absurd (cc (q, (same_id k.id x.id).1 (ap (λ (y : KnownType). y.id) (sym e))))
+    by : (b : Bool) → eq-value.it k.ty x.ty ≡ b → Among x ks ⊎ (x ≡ k) → HasPlace new (ks ++ k ∷ []) x.ty
+    by true q m = at_last ((same_id k.ty x.ty).0 q) q
+    by false q (inr e) = absurd (cc (q, (same_id k.ty x.ty).1 (ap (λ (y : KnownType). y.ty) (sym e))))
     by false q (inl a) =
         let p = h x a in
         record {
           place = p.place;
           there = p.there;
-          found = updates x.id ∙ ap (λ (b : Bool). cond b (Some at) (lookup (eq-value.it x.id) old)) q ∙ p.found;
+          found = updates x.ty ∙ ap (λ (b : Bool). cond b (Some at) (lookup (eq-value.it x.ty) old)) q ∙ p.found;
           stands = get_kept ks k p.there p.place p.stands;
           same = p.same;
         }
 
 -- one more type that is known
-pub places_remembered : (c : Collection) (s u : KnownTypes) (k : KnownType) (at : ℕ) → at ≡ length s.all.items → ((x : DefinedTypeId) → lookup (eq-value.it x) u.places.by_id.entries ≡ cond (eq-value.it k.id x) (Some at) (lookup (eq-value.it x) s.places.by_id.entries))
+pub places_remembered : (c : Collection) (s u : KnownTypes) (k : KnownType) (at : ℕ) → at ≡ length s.all.items → ((x : ValueType) → lookup (eq-value.it x) u.places.by_id.entries ≡ cond (eq-value.it k.ty x) (Some at) (lookup (eq-value.it x) s.places.by_id.entries))
     → u.all.items ≡ s.all.items ++ k ∷ [] → u.places.by_print.entries ≡ s.places.by_print.entries → u.places.prints ≡ s.places.prints
-    → (k.named ≡ true → HasPrint c s.places.by_print.entries k.id) → ArePlaces c s → ArePlaces c u
+    → (k.named ≡ true → HasPrint c s.places.by_print.entries k.ty) → ArePlaces c s → ArePlaces c u
 places_remembered c s u k at end updates items by_print prints named h = record {
-  ids = λ x m. subst (λ (l : List KnownType). HasPlace u.places.by_id.entries l x.id) (sym items) (place_more s.places.by_id.entries u.places.by_id.entries s.all.items k at end updates x (last x m) h.ids);
-  names = λ x m is. subst (λ (l : List (ℕ × ℕ)). HasPrint c l x.id) (sym by_print) (name x (last x m) is);
+  ids = λ x m. subst (λ (l : List KnownType). HasPlace u.places.by_id.entries l x.ty) (sym items) (place_more s.places.by_id.entries u.places.by_id.entries s.all.items k at end updates x (last x m) h.ids);
+  names = λ x m is. subst (λ (l : List (ℕ × ℕ)). HasPrint c l x.ty) (sym by_print) (name x (last x m) is);
   prints = subst (ArePrints c) (sym prints) h.prints;
 }
   where
     last : (x : KnownType) → Among x u.all.items → Among x s.all.items ⊎ (x ≡ k)
     last x m = Among-last s.all.items k x (subst (λ (l : List KnownType). Among x l) items m)
 
-    name : (x : KnownType) → Among x s.all.items ⊎ (x ≡ k) → x.named ≡ true → HasPrint c s.places.by_print.entries x.id
+    name : (x : KnownType) → Among x s.all.items ⊎ (x ≡ k) → x.named ≡ true → HasPrint c s.places.by_print.entries x.ty
     name x (inl a) is = h.names x a is
-    name x (inr e) is = subst (λ (y : KnownType). HasPrint c s.places.by_print.entries y.id) (sym e) (named (ap (λ (y : KnownType). y.named) (sym e) ∙ is))
+    name x (inr e) is = subst (λ (y : KnownType). HasPrint c s.places.by_print.entries y.ty) (sym e) (named (ap (λ (y : KnownType). y.named) (sym e) ∙ is))
 
 -- with more numbers
 pub places_printed : (c : Collection) (s u : KnownTypes) → u.all.items ≡ s.all.items → u.places.by_id.entries ≡ s.places.by_id.entries → ((n : ℕ) → FindsPrint s.places.by_print.entries n → FindsPrint u.places.by_print.entries n)
     → ArePrints c u.places.prints → ArePlaces c s → ArePlaces c u
 places_printed c s u items ids keeps prints h = record {
-  ids = λ x m. subst (λ (l : List KnownType). HasPlace u.places.by_id.entries l x.id) (sym items) (subst (λ (l : List (DefinedTypeId × ℕ)). HasPlace l s.all.items x.id) (sym ids) (h.ids x (subst (λ (l : List KnownType). Among x l) items m)));
-  names = λ x m is. let p = h.names x (subst (λ (l : List KnownType). Among x l) items m) is in (p.0, keeps (type_print c x.id) p.1);
+  ids = λ x m. subst (λ (l : List KnownType). HasPlace u.places.by_id.entries l x.ty) (sym items) (subst (λ (l : List (ValueType × ℕ)). HasPlace l s.all.items x.ty) (sym ids) (h.ids x (subst (λ (l : List KnownType). Among x l) items m)));
+  names = λ x m is. let p = h.names x (subst (λ (l : List KnownType). Among x l) items m) is in (p.0, keeps (value_print c x.ty) p.1);
   prints = prints;
 }
 
@@ -119,13 +121,13 @@ print_found old new n at updates q h = by (nat_eq n q) refl
 -- ---- what is found
 
 -- by its id
-pub id_found : (c : Collection) (ks : KnownTypes) (id : DefinedTypeId) → ArePlaces c ks → HasId ks.all.items id → HasPlace ks.places.by_id.entries ks.all.items id
-id_found c ks id h f = subst (λ (x : DefinedTypeId). HasPlace ks.places.by_id.entries ks.all.items x) f.2 (h.ids f.0 f.1)
+pub id_found : (c : Collection) (ks : KnownTypes) (v : ValueType) → ArePlaces c ks → HasId ks.all.items v → HasPlace ks.places.by_id.entries ks.all.items v
+id_found c ks v h f = subst (λ (x : ValueType). HasPlace ks.places.by_id.entries ks.all.items x) f.2 (h.ids f.0 f.1)
 
-pub no_place : (c : Collection) (ks : KnownTypes) (id : DefinedTypeId) → lookup (eq-value.it id) ks.places.by_id.entries ≡ None → ArePlaces c ks → HasId ks.all.items id → ⊥
+pub no_place : (c : Collection) (ks : KnownTypes) (id : ValueType) → lookup (eq-value.it id) ks.places.by_id.entries ≡ None → ArePlaces c ks → HasId ks.all.items id → ⊥
 no_place c ks id e h f = let p = id_found c ks id h f in absurd (cc (e, p.found))
 
-pub other_place : (c : Collection) (ks : KnownTypes) (id : DefinedTypeId) (at : ℕ) → lookup (eq-value.it id) ks.places.by_id.entries ≡ Some at → ((k : KnownType) → slice_get ks.all.items at ≡ Some k → k.id ≡ id → ⊥) → ArePlaces c ks → HasId ks.all.items id → ⊥
+pub other_place : (c : Collection) (ks : KnownTypes) (id : ValueType) (at : ℕ) → lookup (eq-value.it id) ks.places.by_id.entries ≡ Some at → ((k : KnownType) → slice_get ks.all.items at ≡ Some k → k.ty ≡ id → ⊥) → ArePlaces c ks → HasId ks.all.items id → ⊥
 other_place c ks id at e none h f =
     let p = id_found c ks id h f in
     let same : p.place ≡ at = cc (e, p.found) in
@@ -137,7 +139,7 @@ no_print c ks t none h f =
     let p = h.names f.0 f.1 f.2 in
     none (subst (λ (n : ℕ). FindsPrint ks.places.by_print.entries n) (print_same f.3) p.1)
   where
-    print_same : type_tree c f.0.id ≡ t → type_print c f.0.id ≡ tree_print t
+    print_same : type_tree c f.0.ty ≡ t → value_print c f.0.ty ≡ tree_print t
     print_same e = ap tree_print e
 
 pub no_prints : (es : List (ℕ × ℕ)) (n : ℕ) → length es ≡ 0 → FindsPrint es n → ⊥
@@ -204,7 +206,7 @@ differ_next c ks t at (Some x) e before now n lt = absurd (cc e)
 differ_next c ks t at None e before now n lt = elim (cases_eq n at) [ inl same ↦ subst (DiffersAt c ks t) (sym same) now | inr other ↦ before n (omega (arith, lt, other)) ]
 
 -- not known by its id, and where it is by its tree, that holds
-pub found_none : {X : Type 0} (c : Collection) (ks : KnownTypes) (id : DefinedTypeId) (o : Option X) (P : Type 0) → (HasId ks.all.items id → ⊥) → IfNone o (HasTree c ks.all.items (type_tree c id) → P) → IfNone o (IsFound c ks.all.items id → P)
+pub found_none : {X : Type 0} (c : Collection) (ks : KnownTypes) (id : DefinedTypeId) (o : Option X) (P : Type 0) → (HasId ks.all.items (ValueType.Defined id) → ⊥) → IfNone o (HasTree c ks.all.items (type_tree c (ValueType.Defined id)) → P) → IfNone o (IsFound c ks.all.items id → P)
 found_none c ks id (Some x) P f g = tt
 found_none c ks id None P f g = none
   where

@@ -17,11 +17,9 @@ use Rattle.wac_types_fit.specs.Checking.{value_in, HoldsValues, value_tree, plac
 use Rattle.wac_graph_scopes.specs.declared.prints.Prints.{Prints}
 use Rattle.wac_graph_scopes.specs.Forms.{row_of}
 use Rattle.wac_graph_scopes.specs.Prints.{joined, label_print, tree_print, row_print, place_print, places_print, type_print, ArePrints}
+use Rattle.wac_types_parts.proofs.Ids.{same_type}
 use Rattle.wac_graph_scopes.proofs.FormLaws.{trees_by}
 use Rattle.wac_graph_scopes.proofs.ValueLaws.{defined_tree_is, trees_next}
-
-pub same_id : (a b : DefinedTypeId) → IsTrue (eq-value.it a b) ↔ (a ≡ b)
-same_id a b = search rules
 
 -- ---- place by place
 
@@ -67,7 +65,7 @@ prints_more c p q id n is updates a = record { numbers = λ x k found stands. by
   where
     by : (x : DefinedTypeId) (k : ℕ) → Stands c (ItemKind.Value (ValueType.Defined x)) → (b : Bool) → eq-value.it id x ≡ b → cond b (Some n) (lookup (eq-value.it x) p.found.entries) ≡ Some k → k ≡ type_print c x
     by x k stands true q e =
-        let same : id ≡ x = (same_id id x).0 q in
+        let same : id ≡ x = (same_type id x).0 q in
         let value : n ≡ k = cc e in
         sym value ∙ is ∙ ap (type_print c) same
     by x k stands false q e = a.numbers x k e stands

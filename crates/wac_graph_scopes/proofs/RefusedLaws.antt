@@ -8,7 +8,7 @@ use Rattle.wac_types_base.specs.declared.ids.WorldId.{WorldId}
 use Rattle.wac_types_base.specs.declared.item.«Type».{«Type» as TypeKind}
 use Rattle.wac_types_base.specs.declared.item.ValueType.{ValueType}
 use Rattle.wac_graph_scopes.specs.declared.items.ItemScope.{ItemScope}
-use Rattle.wac_graph_scopes.specs.Parts.{IsOfInterface, IsOfWorld}
+use Rattle.wac_types_parts.specs.Parts.{IsOfInterface, IsOfWorld}
 use Rattle.wac_graph_scopes.specs.ItemRefusals.{RefusedType, RefusedTypeApart, RefusedItem}
 use Rattle.wac_types_base.specs.declared.item.ItemKind.{ItemKind}
 use Rattle.wac_types_base.specs.declared.defined.DefinedType.{DefinedType}

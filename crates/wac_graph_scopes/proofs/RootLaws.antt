@@ -17,7 +17,7 @@ use Rattle.wac_graph_bytes.specs.Meaning.{State, source_of, exports_one, step, s
 use Rattle.wac_graph_bytes.proofs.Steps.{bind_some, some_is}
 use Rattle.wac_graph_scopes.specs.Roots.{root_entries, root_exports, alias_entry, alias_export, if_new, repeated, at_root, has_no_export, HaveSources, IsEarly, ReadsWith, RootsRead}
 use Rattle.wac_graph_scopes.proofs.ScopeLaws.{Extends-one}
-use Rattle.wac_graph_scopes.proofs.OrderLaws.{distinct-append}
+use Rattle.wac_types_parts.proofs.Lists.{distinct-append}
 
 pub zip_more : {A B : Type 0} (R : A → B → Type 0) (xs : List A) (ys : List B) (x : A) (y : B) → AllZip R xs ys → R x y → AllZip R (xs ++ x ∷ []) (ys ++ y ∷ [])
 zip_more R [] [] x y h r = (r, tt)

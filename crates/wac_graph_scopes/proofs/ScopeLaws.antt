@@ -226,8 +226,8 @@ known_put w c ss s u k h true_of items places rs = record {
     by x (inr e) = subst (λ (y : KnownType). IsKnown w ss c y) (sym e) true_of
 
 -- what is known of one id is known of an equal one
-pub known_same : (w : Worlds) (c : Collection) (ss : List Scope) (k : KnownType) (id : DefinedTypeId) → IsKnown w ss c k → k.id ≡ id → value_of w ss (Index k.index) ≡ Some (tree_in c (ItemKind.Value (ValueType.Defined id)))
-known_same w c ss k id h same = h.reads ∙ ap (λ (x : DefinedTypeId). Some (tree_in c (ItemKind.Value (ValueType.Defined x)))) same
+pub known_same : (w : Worlds) (c : Collection) (ss : List Scope) (k : KnownType) (v : ValueType) → IsKnown w ss c k → k.ty ≡ v → value_of w ss (Index k.index) ≡ Some (tree_in c (ItemKind.Value v))
+known_same w c ss k v h same = h.reads ∙ ap (λ (x : ValueType). Some (tree_in c (ItemKind.Value x))) same
 
 -- a scope of another collection, of which these types are known
 pub scope_exchanged : (s : TypeScope) (ks here there : KnownTypes) → here ≡ ks → there ≡ s.known → Exchanges s ks (record s { known = here }) there

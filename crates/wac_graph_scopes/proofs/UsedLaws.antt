@@ -33,7 +33,7 @@ use Rattle.wac_graph_bytes.specs.Typing.{Worlds, Scope, Inside, defined, item_of
 use Rattle.wac_graph_bytes.proofs.Steps.{bind_some}
 use Rattle.wac_graph_bytes.proofs.Looked.{type_in_item}
 use Rattle.wac_graph_scopes.specs.declared.scope.TypeScope.{TypeScope}
-use Rattle.wac_graph_scopes.specs.Parts.{IsUsedKind, IsFresh}
+use Rattle.wac_types_parts.specs.Parts.{IsUsedKind, IsFresh}
 use Rattle.wac_graph_scopes.specs.Scopes.{IsScope, AnswersType, AnswersValue}
 use Rattle.wac_graph_scopes.proofs.ScopeLaws.{Goes-refl, Goes-trans}
 use Rattle.wac_graph_scopes.specs.Items.{IsTypeItem, IsNotable, sort_of}
@@ -82,23 +82,6 @@ module _ (c : Collection) (acyclic : IsAcyclic c) where
   end_value (ValueType.Own r) s n = ap as_value (own_tree c acyclic r s) ∙ ap Some (sym (own_tree c acyclic r s))
   end_value (ValueType.Borrow r) s n = ap as_value (borrow_tree c acyclic r s) ∙ ap Some (sym (borrow_tree c acyclic r s))
   end_value (ValueType.Defined d) s n = defined_value d s n
-
-  -- only a resource is one under its own name
-  pub fresh_is : (n : Name) (k : ItemKind) → IsFresh c n k → (r : ResourceId) × (k ≡ ItemKind.Ty (TypeKind.Resource r))
-  fresh_is n k f = by k (sym (ap tree_kind f.1) ∙ kind_is c acyclic k f.0)
-    where
-      by : (k : ItemKind) → IsResource ≡ item_kind k → (r : ResourceId) × (k ≡ ItemKind.Ty (TypeKind.Resource r))
-      by (ItemKind.Ty (TypeKind.Resource r)) e = (r, refl)
-      by (ItemKind.Ty (TypeKind.Value v)) e = absurd (cc e)
-      by (ItemKind.Ty (TypeKind.Func f)) e = absurd (cc e)
-      by (ItemKind.Ty (TypeKind.Interface i)) e = absurd (cc e)
-      by (ItemKind.Ty (TypeKind.World w)) e = absurd (cc e)
-      by (ItemKind.Ty (TypeKind.Module m)) e = absurd (cc e)
-      by (ItemKind.Func f) e = absurd (cc e)
-      by (ItemKind.Instance i) e = absurd (cc e)
-      by (ItemKind.Component w) e = absurd (cc e)
-      by (ItemKind.Module m) e = absurd (cc e)
-      by (ItemKind.Value v) e = absurd (cc e)
 
 -- a type that is no resource, as an item
 pub plain_item : (t : Tree) → (tree_kind t ≡ IsResource → ⊥) → item_of t ≡ type_item t

@@ -47,13 +47,13 @@ use Rattle.wac_graph_scopes.specs.declared.scope.TypeScope.{TypeScope}
 use Rattle.wac_graph_scopes.specs.declared.items.ItemScope.{ItemScope}
 use Rattle.wac_graph_scopes.specs.Scopes.{AnswersType, ExportsType, IsTypeDeclaration}
 use Rattle.wac_graph_scopes.proofs.ScopeLaws.{type_stated}
-use Rattle.wac_graph_scopes.specs.Parts.{exports_of, IsOfInterface, IsOfWorld}
+use Rattle.wac_types_parts.specs.Parts.{exports_of, IsOfInterface, IsOfWorld}
 use Rattle.wac_graph_scopes.specs.Items.{IsItemScope, ItemsGo, GivesType, ExportsItem, ExportsIndex, IsTypeItem, IsNotable, IsSorted, Describes, IsTreeOf, AreTreesOf, Writing, adds_core, HasCore, GivesCore, GivesItem, MayExport, WritesSome, GrowsBy, StatesInstance, StatesComponent, HasType, described_as, HasEntry, IsNoResource}
 use Rattle.wac_graph_scopes.proofs.ScopeLaws.{Extends-one}
 use Rattle.wac_graph_scopes.proofs.ItemLaws.{ItemsGo-refl, ItemsGo-trans, types_go, export_follows}
 use Rattle.wac_graph_scopes.proofs.UsedLaws.{root_of, plain_item}
 use Rattle.wac_graph_scopes.proofs.FieldLaws.{written_instance}
-use Rattle.wac_graph_scopes.proofs.OrderLaws.{distinct-append}
+use Rattle.wac_types_parts.proofs.Lists.{distinct-append}
 use Rattle.wac_types_base.proofs.Lists.{no_entries}
 
 -- ---- names

@@ -25,12 +25,12 @@ use Rattle.wac_graph_scopes.specs.declared.items.ItemScope.{ItemScope}
 use Rattle.wac_graph_scopes.specs.declared.imports.Importing.{Importing}
 use Rattle.wac_graph_scopes.specs.declared.imports.SortIndex.{SortIndex}
 use Rattle.wac_graph_scopes.specs.declared.imports.ImportScope.{ImportScope}
-use Rattle.wac_graph_scopes.specs.declared.imports.Called.{Called}
+use Rattle.wac_types_parts.specs.declared.called.Called.{Called}
 use Rattle.wac_graph_scopes.specs.declared.imports.TakenUse.{TakenUse}
-use Rattle.wac_graph_scopes.specs.declared.parts.Item.{Item}
-use Rattle.wac_graph_scopes.specs.declared.parts.Use.{Use}
+use Rattle.wac_types_parts.specs.declared.parts.Item.{Item}
+use Rattle.wac_types_parts.specs.declared.parts.Use.{Use}
 use Rattle.wac_graph_scopes.specs.Used.{IsUsedAs}
-use Rattle.wac_graph_scopes.specs.Parts.{interface_in, exports_of, world_uses_of, imports_of, world_exports_of, IsUseNamed, IsUsedKind, taken_in}
+use Rattle.wac_types_parts.specs.Parts.{interface_in, exports_of, world_uses_of, imports_of, world_exports_of, IsUseNamed, IsUsedKind, taken_in}
 use Rattle.wac_graph_scopes.specs.Scopes.{Extends, GoesOn, AreKnown}
 use Rattle.wac_graph_scopes.specs.Items.{IsItemScope, AreUsed, IsTypeItem, IsInstanceAt, IsTreeOf, sort_of, IsSorted, Writing, StatesComponent}
 

@@ -28,11 +28,11 @@ use Rattle.wac_graph_scopes.specs.declared.scope.KnownTypes.{KnownTypes}
 use Rattle.wac_graph_scopes.specs.declared.items.ItemScope.{ItemScope}
 use Rattle.wac_graph_scopes.specs.declared.items.Around.{Around}
 use Rattle.wac_graph_scopes.specs.declared.items.PlacedInterface.{PlacedInterface}
-use Rattle.wac_graph_scopes.specs.declared.parts.Item.{Item}
-use Rattle.wac_graph_scopes.specs.declared.parts.Use.{Use}
+use Rattle.wac_types_parts.specs.declared.parts.Item.{Item}
+use Rattle.wac_types_parts.specs.declared.parts.Use.{Use}
 use Rattle.wac_graph_scopes.specs.declared.used.UsedIndex.{UsedIndex}
 use Rattle.wac_graph_scopes.specs.Used.{Used, used_at, IsUsedAs}
-use Rattle.wac_graph_scopes.specs.Parts.{interface_in, exports_of, uses_of, IsUsedKind, IsFresh}
+use Rattle.wac_types_parts.specs.Parts.{interface_in, exports_of, uses_of, IsUsedKind, IsFresh}
 use Rattle.wac_graph_scopes.specs.Scopes.{Extends, AreKnown, IsScope, IsEntryIn, IsTypeDeclaration}
 
 -- The types can be read, and the counters of the other sorts are true.

@@ -6,7 +6,6 @@ pub mod Refusals
 pub mod CoreItems
 pub mod ItemRefusals
 pub mod Roots
-pub mod Parts
 pub mod Used
 pub mod Items
 pub mod Orders

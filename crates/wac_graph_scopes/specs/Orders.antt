@@ -4,8 +4,8 @@ use Rattle.wac_types_base.specs.declared.ids.InterfaceId.{InterfaceId}
 use Rattle.wac_types_base.specs.declared.item.ItemKind.{ItemKind}
 use Rattle.wac_graph_scopes.specs.declared.imports.Importing.{Importing}
 use Rattle.wac_graph_scopes.specs.declared.order.Turn.{Turn}
-use Rattle.wac_graph_scopes.specs.declared.parts.Item.{Item}
-use Rattle.wac_graph_scopes.specs.Parts.{IsOfInterface, IsFresh}
+use Rattle.wac_types_parts.specs.declared.parts.Item.{Item}
+use Rattle.wac_types_parts.specs.Parts.{IsOfInterface, IsFresh}
 use Rattle.wac_graph_scopes.specs.Imports.{all_imports, IsGiven}
 use Rattle.wac_types_base.specs.Graph.{Among}
 use Rattle.wac_types_base.specs.Entries.{Name, AreDistinct}

@@ -88,9 +88,12 @@ abbrev pub places_print : ℕ → List (Option Tree) → ℕ
 places_print before [] = before
 places_print before (o ∷ os) = places_print (place_print before o) os
 
--- the number of a defined type
+-- the number of a value type, and of a defined type
+abbrev pub value_print : Collection → ValueType → ℕ
+value_print c v = tree_print (tree_in c (ItemKind.Value v))
+
 abbrev pub type_print : Collection → DefinedTypeId → ℕ
-type_print c id = tree_print (tree_in c (ItemKind.Value (ValueType.Defined id)))
+type_print c id = value_print c (ValueType.Defined id)
 
 -- each number that is found is that of the type's tree
 pub record ArePrints (c : Collection) (p : Prints) : Type 0 where

@@ -58,7 +58,8 @@ IsWhole c s k = PartDangles c s.resources s k → ⊥
 -- nothing is found only where no type with a name has its tree, or it can be written anew
 abbrev pub FindsNeeded : Collection → TypeScope → DefinedTypeId → Option ℕ → Type 0
 FindsNeeded c s id o = IsScopeOf c s
-    → IfNone o (HasTree c s.known.all.items (type_tree c id) → IsWhole c s (ItemKind.Value (ValueType.Defined id)))
+    → IfNone o (HasTree c s.known.all.items (type_tree c (ValueType.Defined id))
+    → IsWhole c s (ItemKind.Value (ValueType.Defined id)))
 
 -- nothing is found only where the type is not known, or can be written anew
 abbrev pub FindsAll : Collection → TypeScope → DefinedTypeId → Option ℕ → Type 0

@@ -29,7 +29,7 @@ use Rattle.wac_graph_bytes.specs.Views.{before, declarations_of, defined_view}
 use Rattle.wac_graph_scopes.specs.declared.scope.KnownType.{KnownType}
 use Rattle.wac_graph_scopes.specs.declared.scope.KnownTypes.{KnownTypes}
 use Rattle.wac_graph_scopes.specs.declared.scope.TypeScope.{TypeScope}
-use Rattle.wac_graph_scopes.specs.Known.{ArePlaces, HasPrint, HasTree, HasId, DiffersAt, IsIndexOf}
+use Rattle.wac_graph_scopes.specs.Known.{ArePlaces, HasPrint, HasTree, DiffersAt, IsIndexOf}
 
 -- more may stand, and what stood stands
 pub record Extends (old new : Scope) : Type 0 where
@@ -50,9 +50,9 @@ pub record GoesOn (old new : Inside) : Type 0 where
   pub imports : new.imports ≡ old.imports
   pub exports : new.exports ≡ old.exports
 
--- the index of a type that is remembered stands for the type of its id
+-- the index of a type that is remembered stands for it
 pub record IsKnown (w : Worlds) (ss : List Scope) (c : Collection) (k : KnownType) : Type 0 where
-  pub reads : value_of w ss (Index k.index) ≡ Some (tree_in c (ItemKind.Value (ValueType.Defined k.id)))
+  pub reads : value_of w ss (Index k.index) ≡ Some (tree_in c (ItemKind.Value k.ty))
 
 -- the index stands for the resource of that id
 pub record IsEntry (w : Worlds) (ss : List Scope) (c : Collection) (r : ResourceId) (k : ℕ) : Type 0 where
@@ -214,7 +214,8 @@ FindsOwn s v o = (d : DefinedTypeId) (k : ℕ) → v ≡ ValueType.Defined d →
 
 -- a type that is remembered at a place has the index there
 abbrev pub FindsAt : TypeScope → ℕ → DefinedTypeId → Option ℕ → Type 0
-FindsAt s place id o = (k : KnownType) → slice_get s.known.all.items place ≡ Some k → k.id ≡ id → o ≡ Some k.index
+FindsAt s place id o = (k : KnownType) → slice_get s.known.all.items place ≡ Some k → k.ty ≡ ValueType.Defined id
+    → o ≡ Some k.index
 
 -- the index of a value type, or of a resource, if there is one
 abbrev pub FindsValue : Collection → TypeScope → ValueType → Option ℕ → Type 0
@@ -263,7 +264,7 @@ ExportsNewType n ty old new r = (w : Worlds) (c : Collection) (outer : List Scop
 
 -- a type without a name is known by its index, and one with a name has a number that is found
 abbrev pub MayBeNamed : Collection → TypeScope → KnownType → Type 0
-MayBeNamed c s k = k.named ≡ true → HasPrint c s.known.places.by_print.entries k.id
+MayBeNamed c s k = k.named ≡ true → HasPrint c s.known.places.by_print.entries k.ty
 
 -- the index is remembered for the type that it stands for
 abbrev pub Remembers : {U E : Type 0} → KnownType → TypeScope → TypeScope → Result U E → Type 0
@@ -277,10 +278,6 @@ FindsKnown s o = (w : Worlds) (c : Collection) (outer : List Scope) (i : Inside)
 abbrev pub KnowsResource : TypeScope → Name → Option ℕ → Type 0
 KnowsResource s n o = (w : Worlds) (c : Collection) (outer : List Scope) (i : Inside) → IsScope w c outer i s
     → IfSome o (λ k. type_at w (i.here ∷ outer) k ≡ Some (rigid (resource n) end))
-
-abbrev pub RemembersOne : {U E : Type 0} → Collection → DefinedTypeId → ℕ → TypeScope → TypeScope → Result U E → Type 0
-RemembersOne c id k old new r = (w : Worlds) (outer : List Scope) (i : Inside) → IsScope w c outer i old
-    → StandsFor w (i.here ∷ outer) c id k → IfOk r (λ _. IsScope w c outer i new)
 
 abbrev pub RemembersValue : {U E : Type 0} → Collection → ValueType → ℕ → TypeScope → TypeScope → Result U E → Type 0
 RemembersValue c v k old new r = (w : Worlds) (outer : List Scope) (i : Inside) → IsScope w c outer i old
@@ -297,8 +294,3 @@ NotesEntry c id k old new r = (w : Worlds) (outer : List Scope) (i : Inside) →
 abbrev pub NotesValue : {U E : Type 0} → Collection → ValueType → ℕ → TypeScope → TypeScope → Result U E → Type 0
 NotesValue c v k old new r = (w : Worlds) (outer : List Scope) (i : Inside) → IsScope w c outer i old
     → type_at w (i.here ∷ outer) k ≡ Some (tree_in c (ItemKind.Value v)) → IfOk r (λ _. IsScope w c outer i new)
-
--- then the defined type is known by its own id
-abbrev pub NotesOwn : {U E : Type 0} → Collection → ValueType → TypeScope → Result U E → Type 0
-NotesOwn c v new r = (d : DefinedTypeId) → v ≡ ValueType.Defined d → Stands c (ItemKind.Value v)
-    → OnOk r (HasId new.known.all.items d)

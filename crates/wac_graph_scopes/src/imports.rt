@@ -11,7 +11,7 @@ ghost use Rattle.wac_graph_bytes.specs.declared.value.Sort.TheVariants.{Instance
 ghost use Rattle.wac_graph_bytes.specs.Counting.{description_sort};
 ghost use Rattle.wac_graph_bytes.specs.Typing.{Worlds, Scope, nothing_inside};
 ghost use Rattle.wac_graph_scopes.specs.Used.{put_used, IsUsedAs};
-ghost use Rattle.wac_graph_scopes.specs.Parts.{IsUsedKind};
+ghost use Rattle.wac_types_parts.specs.Parts.{IsUsedKind};
 ghost use Rattle.wac_graph_scopes.specs.Items.{IsItemScope, with_known, Never, Misses, HasNameAt, HasEntry, IsNoResource, DescribesSimply, DescribesEntry, DescribesOwn};
 ghost use Rattle.wac_graph_scopes.specs.Orders.{IsOrder, SourcesFirst};
 ghost use Rattle.wac_graph_scopes.specs.ItemRefusals.{RefusedTypeApart, RefusedItem, RefusedUse};
@@ -25,19 +25,18 @@ use crate::items::{
     push_func_type,
 };
 use crate::order::{ImportOrder, order_of};
-use crate::parts::{
-    Item, Use, export_at, export_count, identifier, import_at, import_count, interface_of,
-    is_fresh, taken, use_at, use_count, use_named, world_export_at, world_export_count,
-    world_use_at, world_use_count, world_use_named,
-};
 use crate::scope::KnownTypes;
 use crate::used::{TypeName, UsedIndex, UsedTypes};
 use crate::value::{define_apart, fits_in};
 use std::alloc::{AllocError, Global};
 use std::mem;
 use wac_graph_bytes::{Declaration, Description, Sort};
-use wac_types_base::{
-    InterfaceId, ItemKind, NamedMap, Names, Text, Type, Types, UsedType, WorldId,
+use wac_types_base::{InterfaceId, ItemKind, NamedMap, Names, Type, Types, UsedType, WorldId};
+use wac_types_parts::called::Called;
+use wac_types_parts::parts::{
+    Item, Use, export_at, export_count, identifier, import_at, import_count, interface_of,
+    is_fresh, taken, use_at, use_count, use_named, world_export_at, world_export_count,
+    world_use_at, world_use_count, world_use_named,
 };
 
 /// An index of a sort.
@@ -45,13 +44,6 @@ use wac_types_base::{
 pub struct SortIndex {
     pub sort: Sort,
     pub index: u64,
-}
-
-/// Under which name the import at a place is asked for.
-#[derive(Drop)]
-pub struct Called {
-    pub name: Text,
-    pub at: usize,
 }
 
 /// The imports of a world while they are written, with the types of imported instances that are used.

@@ -10,7 +10,7 @@ ghost use Rattle.wac_types_base.specs.Collection.{Stands};
 ghost use Rattle.wac_types_fit.specs.Trees.{IsInside, tree_in};
 ghost use Rattle.wac_graph_bytes.specs.Typing.{Worlds, Scope, nothing_inside};
 ghost use Rattle.wac_graph_scopes.specs.Used.{IsUsedAs};
-ghost use Rattle.wac_graph_scopes.specs.Parts.{exports_of, uses_of, IsUsedKind, IsFresh};
+ghost use Rattle.wac_types_parts.specs.Parts.{exports_of, uses_of, IsUsedKind, IsFresh};
 ghost use Rattle.wac_graph_scopes.specs.declared.fault.WriteError.{WriteError};
 ghost use Rattle.wac_graph_scopes.specs.Refusals.{RefusedThere};
 ghost use Rattle.wac_graph_scopes.specs.ItemRefusals.{RefusedModule, RefusedType, RefusedItem, RefusedUse};
@@ -20,10 +20,6 @@ ghost use Rattle.wac_graph_scopes.specs.Items.{StatesType, StatesTypeItem, State
 
 use crate::core_items::module_declarations;
 use crate::fault::WriteError;
-use crate::parts::{
-    Item, Use, export_at, export_count, export_named, identifier, interface_of, is_fresh, taken,
-    use_at, use_count, world_of,
-};
 use crate::resources::{note_resource, resource_of};
 use crate::scope::{TypeScope, next_of};
 use crate::used::{TypeName, UsedIndex, UsedTypes};
@@ -34,6 +30,10 @@ use std::mem;
 use wac_graph_bytes::{Alias, Declaration, Description, Sort};
 use wac_types_base::{
     FuncTypeId, InterfaceId, ItemKind, ModuleTypeId, Names, Type, Types, ValueType, WorldId,
+};
+use wac_types_parts::parts::{
+    Item, Use, export_at, export_count, export_named, identifier, interface_of, is_fresh, taken,
+    use_at, use_count, world_of,
 };
 
 /// A scope of written types, and how many items of the other sorts stand there.

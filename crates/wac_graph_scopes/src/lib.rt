@@ -10,7 +10,6 @@ pub mod items;
 mod lacking;
 mod laws;
 pub mod order;
-pub mod parts;
 pub mod prints;
 mod resources;
 pub mod scope;

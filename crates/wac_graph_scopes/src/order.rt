@@ -9,15 +9,15 @@ ghost use Rattle.wac_graph_scopes.specs.declared.order.Turn.TheVariants as TheTu
 ghost use Rattle.wac_graph_scopes.specs.Orders.{IsOrder, IsBegun, Puts, Marks, Leaves, IsDone, AreDone, IsSource, IsEarly, HasTurn, IsTurnAt, AreTurns, EarlyFirst, SourcesFirst};
 
 use crate::imports::{Importing, use_giving};
-use crate::parts::{
-    Item, Use, export_at, export_count, identifier, import_at, import_count, interface_of,
-    is_fresh, use_at, use_count, world_export_at, world_export_count, world_use_named,
-};
 use crate::type_places::TypePlaces;
 use indexmap::IndexSet;
 use std::alloc::{AllocError, Global};
 use std::mem;
 use wac_types_base::{InterfaceId, ItemKind, NamedMap, Types};
+use wac_types_parts::parts::{
+    Item, Use, export_at, export_count, identifier, import_at, import_count, interface_of,
+    is_fresh, use_at, use_count, world_export_at, world_export_count, world_use_named,
+};
 
 /// Which imports are put in order together.
 #[derive(Clone, Copy, PartialEq, Eq)]

@@ -12,10 +12,10 @@ ghost use Rattle.wac_graph_scopes.specs.Refusals.{IsUnnamed};
 ghost use Rattle.wac_graph_scopes.specs.Scopes.{FindsEntry, FindsResource, NotesResource, NotesEntry};
 
 use crate::fault::WriteError;
-use crate::parts::root_name;
 use crate::scope::TypeScope;
 use std::alloc::Global;
 use wac_types_base::{ItemKind, ResourceId, Type, Types};
+use wac_types_parts::parts::root_name;
 
 /// The index of a resource by its entry: its own, else the next along its aliases that stands in the scope.
 fn entry_index(scope: &TypeScope, types: &Types, id: ResourceId) -> Option<u64>

@@ -4,12 +4,13 @@ ghost use Rattle.std.specs.Prelude.{◌≡◌, ◌+◌, ◌-◌, ◌^◌, ◌↔
 ghost use Rattle.wac_types_base.specs.Record.{Collection};
 ghost use Rattle.std.specs.Map.{lookup};
 ghost use Rattle.wac_types_base.specs.Entries.{value_at};
-ghost use Rattle.wac_types_base.specs.contracts.ids.DefinedTypeIdPartialEq.TheImpl.{eq-value};
+ghost use Rattle.wac_types_base.specs.contracts.item.ValueTypePartialEq.TheImpl.{eq-value};
+ghost use Rattle.wac_types_base.specs.declared.item.ValueType.{ValueType as ValueKind};
 ghost use Rattle.wac_types_base.specs.contracts.ids.ResourceIdPartialEq.TheImpl.{eq-value as same_resource};
 ghost use Rattle.wac_graph_scopes.specs.declared.scope.KnownType.{KnownType};
 ghost use Rattle.wac_graph_bytes.specs.Typing.{Worlds, Scope, nothing_inside};
 ghost use Rattle.wac_graph_scopes.specs.Prints.{ArePrints};
-ghost use Rattle.wac_graph_scopes.specs.Known.{ArePlaces, HasId, IsIndexOf, FindsPrint};
+ghost use Rattle.wac_graph_scopes.specs.Known.{ArePlaces, HasId, IsNamed, IsIndexOf, FindsPrint};
 ghost use Rattle.wac_graph_scopes.specs.Scopes.{AreKnown, PutsKnown, IsScope, Exchanges, FindsAt, FindsType, Defines, MakesEntry, ExportsNewType, Remembers, FindsKnown, KnowsResource, NotesResource, NotesEntry};
 
 use crate::prints::Prints;
@@ -17,12 +18,12 @@ use indexmap::IndexMap;
 use std::alloc::{AllocError, Global};
 use std::mem;
 use wac_graph_bytes::{Declaration, DefinedType, Description};
-use wac_types_base::{DefinedTypeId, NamedMap, ResourceId};
+use wac_types_base::{DefinedTypeId, NamedMap, ResourceId, ValueType};
 
 /// A type of a collection that is written, and its index.
 #[derive(Clone, Copy)]
 pub struct KnownType {
-    pub id: DefinedTypeId,
+    pub ty: ValueType,
     pub index: u64,
     /// Whether it has a name of its own here.
     pub named: bool,
@@ -40,8 +41,8 @@ pub struct KnownTypes {
 /// Where types stand in the list of those that are known.
 #[derive(Drop)]
 pub struct Places {
-    /// Of a type's id.
-    pub by_id: IndexMap<DefinedTypeId, usize>,
+    /// Of a type by its own id.
+    pub by_id: IndexMap<ValueType, usize>,
     /// Of the number of a type that has a name here.
     pub by_print: IndexMap<u64, usize>,
     pub prints: Prints,
@@ -64,8 +65,8 @@ pub(crate) fn next_of(count: u64) -> u64
     count.saturating_add(1)
 }
 
-/// Whether two ids are one.
-fn is_same_id(a: DefinedTypeId, b: DefinedTypeId) -> bool
+/// Whether two types have one id.
+fn is_same_id(a: ValueType, b: ValueType) -> bool
     ensures { IsTrue result ↔ (a ≡ b) }
 {
     a == b
@@ -83,11 +84,11 @@ impl Places {
         }
     }
 
-    /// Where the type of an id stands.
-    fn place_of_id(&self, id: DefinedTypeId) -> Option<usize>
-        ensures { result ≡ lookup (eq-value.it id) self.now.by_id.entries }
+    /// Where a type stands.
+    fn place_of_id(&self, ty: ValueType) -> Option<usize>
+        ensures { result ≡ lookup (eq-value.it ty) self.now.by_id.entries }
     {
-        match self.by_id.get(&id) {
+        match self.by_id.get(&ty) {
             Some(at) => Some(*at),
             None => None,
         }
@@ -136,10 +137,11 @@ impl KnownTypes {
     pub fn put(&mut self, id: DefinedTypeId, index: u64) -> Result<(), AllocError>
         ensures { PutsKnown id index self.old self.new result }
     {
+        let ty = ValueType::Defined(id);
         let at = self.all.len();
-        self.places.by_id.insert(id, at)?;
+        self.places.by_id.insert(ty, at)?;
         self.all.push(KnownType {
-            id,
+            ty,
             index,
             named: false,
         })?;
@@ -195,7 +197,7 @@ impl TypeScope {
         ensures resources { self.new.resources ≡ self.old.resources }
     {
         let at = self.known.all.len();
-        self.known.places.by_id.insert(known.id, at)?;
+        self.known.places.by_id.insert(known.ty, at)?;
         self.known.all.push(known)?;
         Ok(())
     }
@@ -245,21 +247,21 @@ impl TypeScope {
     }
 
     /// Whether a type is remembered under a name of its own.
-    pub(crate) fn is_named(&self, id: DefinedTypeId) -> bool
-        ensures { result ≡ true → HasId self.now.known.all.items id }
+    pub(crate) fn is_named(&self, ty: ValueType) -> bool
+        ensures { result ≡ true → IsNamed ty self.now.known.all.items }
     {
-        match self.known.places.place_of_id(id) {
-            Some(at) => self.is_named_at(at, id),
+        match self.known.places.place_of_id(ty) {
+            Some(at) => self.is_named_at(at, ty),
             None => false,
         }
     }
 
     /// Whether what is remembered at a place is the type, under a name of its own.
-    fn is_named_at(&self, at: usize, id: DefinedTypeId) -> bool
-        ensures { result ≡ true → HasId self.now.known.all.items id }
+    fn is_named_at(&self, at: usize, ty: ValueType) -> bool
+        ensures { result ≡ true → IsNamed ty self.now.known.all.items }
     {
         match self.known_at(at) {
-            Some(known) => is_same_id(known.id, id) && known.named,
+            Some(known) => is_same_id(known.ty, ty) && known.named,
             None => false,
         }
     }
@@ -268,10 +270,11 @@ impl TypeScope {
     pub fn known(&self, id: DefinedTypeId) -> Option<u64>
         ensures reads { (c : Collection) → FindsType c self.now id result }
         ensures own { (k : ℕ) → IsIndexOf self.now.known id k → result ≡ Some k }
-        ensures found { IfSome result (λ _. HasId self.now.known.all.items id) }
-        ensures none { (c : Collection) → ArePlaces c self.now.known → IfNone result (HasId self.now.known.all.items id → ⊥) }
+        ensures found { IfSome result (λ _. HasId self.now.known.all.items (ValueKind.Defined id)) }
+        ensures none { (c : Collection) → ArePlaces c self.now.known
+            → IfNone result (HasId self.now.known.all.items (ValueKind.Defined id) → ⊥) }
     {
-        match self.known.places.place_of_id(id) {
+        match self.known.places.place_of_id(ValueType::Defined(id)) {
             Some(at) => self.known_as(at, id),
             None => None,
         }
@@ -281,12 +284,13 @@ impl TypeScope {
     fn known_as(&self, at: usize, id: DefinedTypeId) -> Option<u64>
         ensures reads { (c : Collection) → FindsType c self.now id result }
         ensures own { FindsAt self.now at id result }
-        ensures found { IfSome result (λ _. HasId self.now.known.all.items id) }
-        ensures none { IfNone result ((k : KnownType) → slice_get self.now.known.all.items at ≡ Some k → k.id ≡ id → ⊥) }
+        ensures found { IfSome result (λ _. HasId self.now.known.all.items (ValueKind.Defined id)) }
+        ensures none { IfNone result ((k : KnownType) → slice_get self.now.known.all.items at ≡ Some k
+            → k.ty ≡ ValueKind.Defined id → ⊥) }
     {
         match self.known_at(at) {
             Some(known) => {
-                if is_same_id(known.id, id) {
+                if is_same_id(known.ty, ValueType::Defined(id)) {
                     Some(known.index)
                 } else {
                     None

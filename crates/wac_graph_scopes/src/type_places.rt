@@ -6,11 +6,11 @@ ghost use Rattle.wac_types_base.specs.declared.item.ValueType.{ValueType};
 ghost use Rattle.wac_types_base.specs.Collection.{Stands};
 
 use crate::imports::Importing;
-use crate::parts::{import_at, import_count};
 use crate::prints::Prints;
 use indexmap::{IndexMap, IndexSet};
 use std::alloc::{AllocError, Global};
 use wac_types_base::{DefinedTypeId, ItemKind, Type, Types, ValueType};
+use wac_types_parts::parts::{import_at, import_count};
 
 /// Where those imports of a world stand that are defined types.
 #[derive(Drop)]

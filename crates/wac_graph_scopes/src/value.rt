@@ -9,9 +9,9 @@ ghost use Rattle.wac_types_base.specs.Resolving.{IsNoAlias};
 ghost use Rattle.wac_types_fit.specs.Trees.{tree_in, Fit};
 ghost use Rattle.wac_types_fit.specs.Checking.{value_in, HoldsValues, value_tree, place_trees};
 ghost use Rattle.wac_graph_scopes.specs.declared.fault.WriteError.{WriteError};
-ghost use Rattle.wac_graph_scopes.specs.Known.{HasId, KeepsKnown};
+ghost use Rattle.wac_graph_scopes.specs.Known.{IsNamed, KeepsKnown};
 ghost use Rattle.wac_graph_scopes.specs.Refusals.{FindsNeeded, FindsAll, LacksTree, Refused, RefusedHandle, RefusedParts, RefusedApart, RefusedPlace, RefusedThere, RefusedThereApart};
-ghost use Rattle.wac_graph_scopes.specs.Scopes.{KeepsScope, FindsOwn, FindsType, FindsTree, FindsTreeAt, FindsValue, WritesValue, WritesOwn, WritesDefined, WritesType, WritesPlaces, WritesPlace, WritesEntry, WritesIndex, MakesEntry, RemembersOne, RemembersValue, NotesValue, NotesOwn};
+ghost use Rattle.wac_graph_scopes.specs.Scopes.{KeepsScope, FindsOwn, FindsType, FindsTree, FindsTreeAt, FindsValue, WritesValue, WritesOwn, WritesDefined, WritesType, WritesPlaces, WritesPlace, WritesEntry, WritesIndex, MakesEntry, RemembersValue, NotesValue};
 
 use crate::entry::{entry_of, func_entry_of};
 use crate::fault::WriteError;
@@ -258,7 +258,7 @@ fn equal_at(
     let Some(other) = scope.known_at(at) else {
         return Ok(None);
     };
-    let own = ItemKind::Value(ValueType::Defined(other.id));
+    let own = ItemKind::Value(other.ty);
     let equal = fits_in(alloc, types, own, ItemKind::Value(ty))?;
     if equal {
         Ok(Some(other.index))
@@ -423,18 +423,18 @@ fn known_index(
 fn note_named(
     scope: &mut TypeScope,
     types: &Types,
-    id: DefinedTypeId,
+    ty: ValueType,
     index: u64,
 ) -> Result<(), WriteError>
-    requires { Stands types.now (ItemKind.Value (ValueType.Defined id)) }
-    ensures remembers { RemembersOne types.now id index scope.old scope.new result }
-    ensures found { OnOk result (HasId scope.new.known.all.items id) }
+    requires { Stands types.now (ItemKind.Value ty) }
+    ensures remembers { RemembersValue types.now ty index scope.old scope.new result }
+    ensures found { OnOk result (IsNamed ty scope.new.known.all.items) }
 {
-    let print = scope.known.places.prints.of(types, ValueType::Defined(id))?;
+    let print = scope.known.places.prints.of(types, ty)?;
     let at = scope.known.all.len();
     scope.known.places.note_print(print, at)?;
     scope.remember(KnownType {
-        id,
+        ty,
         index,
         named: true,
     })?;
@@ -449,37 +449,34 @@ pub(crate) fn note_value(
     index: u64,
 ) -> Result<(), WriteError>
     ensures notes { NotesValue types.now ty index scope.old scope.new result }
-    ensures own { NotesOwn types.now ty scope.new result }
+    ensures own { Stands types.now (ItemKind.Value ty) → OnOk result (IsNamed ty scope.new.known.all.items) }
 {
-    let ValueType::Defined(id) = ty else {
-        return Ok(());
-    };
     if !types.has(ItemKind::Value(ty)) {
         return Ok(());
     }
     types.see_acyclic();
-    note_own(scope, types, id, index)?;
+    note_own(scope, types, ty, index)?;
     note_end(scope, types.resolve_value_type(ty), index)
 }
 
-/// Remembers the index of a defined type as one under a name of its own, unless one is remembered so.
+/// Remembers the index of a type as one under a name of its own, unless one is remembered so.
 fn note_own(
     scope: &mut TypeScope,
     types: &Types,
-    id: DefinedTypeId,
+    ty: ValueType,
     index: u64,
 ) -> Result<(), WriteError>
-    requires { Stands types.now (ItemKind.Value (ValueType.Defined id)) }
-    ensures remembers { RemembersOne types.now id index scope.old scope.new result }
-    ensures found { OnOk result (HasId scope.new.known.all.items id) }
+    requires { Stands types.now (ItemKind.Value ty) }
+    ensures remembers { RemembersValue types.now ty index scope.old scope.new result }
+    ensures found { OnOk result (IsNamed ty scope.new.known.all.items) }
 {
-    if scope.is_named(id) {
+    if scope.is_named(ty) {
         return Ok(());
     }
-    note_named(scope, types, id, index)
+    note_named(scope, types, ty, index)
 }
 
-/// Remembers the index of a value type without a name, unless one is remembered.
+/// Remembers the index of a defined type without a name, unless one is remembered.
 fn note_end(scope: &mut TypeScope, ty: ValueType, index: u64) -> Result<(), WriteError>
     ensures remembers { (c : Collection) → RemembersValue c ty index scope.old scope.new result }
     ensures keeps { OnOk result (KeepsKnown scope.old.known.all.items scope.new.known.all.items) }
@@ -491,7 +488,7 @@ fn note_end(scope: &mut TypeScope, ty: ValueType, index: u64) -> Result<(), Writ
         Some(_) => Ok(()),
         None => {
             scope.remember(KnownType {
-                id,
+                ty,
                 index,
                 named: false,
             })?;
@@ -611,7 +608,7 @@ fn define_anew(
 {
     let index = define_entry(alloc, scope, types, id)?;
     scope.remember(KnownType {
-        id,
+        ty: ValueType::Defined(id),
         index,
         named: false,
     })?;
@@ -639,7 +636,7 @@ fn push_defined(
     }
     let index = define_entry(alloc, scope, types, id)?;
     scope.remember(KnownType {
-        id,
+        ty: ValueType::Defined(id),
         index,
         named: false,
     })?;

@@ -5,7 +5,7 @@ ghost use Rattle.wac_types_base.specs.declared.item.ItemKind.{ItemKind};
 ghost use Rattle.wac_types_base.specs.Entries.{names_of, has_name, AreDistinct};
 ghost use Rattle.wac_types_base.specs.Collection.{Stands};
 ghost use Rattle.wac_types_fit.specs.Trees.{IsInside};
-ghost use Rattle.wac_graph_scopes.specs.Parts.{exports_of, IsFresh};
+ghost use Rattle.wac_types_parts.specs.Parts.{exports_of, IsFresh};
 ghost use Rattle.wac_graph_scopes.specs.Items.{HasNameAt, StatesClosed, DescribesSimply};
 ghost use Rattle.wac_graph_scopes.specs.Imports.{all_exports, KeepsWorld, WritesInOrder, KeepsExporting, ExportsAt, ExportsInOrder, ExportsAll, ExportsThere};
 ghost use Rattle.wac_graph_scopes.specs.Imports.{AliasesInstance, AliasesSource, WritesBetween, WritesBeforeOthers, BeginsWorld, MakesComponent};
@@ -14,14 +14,14 @@ use crate::fault::WriteError;
 use crate::imports::{ImportScope, Importing};
 use crate::items::{ItemScope, add_name, export_resource};
 use crate::order::export_order;
-use crate::parts::{
-    Item, export_at, export_count, identifier, interface_of, is_fresh, is_used_kind, use_at,
-    use_count, world_export_at, world_export_count, world_use_at, world_use_count,
-};
 use crate::used::TypeName;
 use std::alloc::{AllocError, Global};
 use wac_graph_bytes::{Declaration, Description};
 use wac_types_base::{InterfaceId, ItemKind, NamedMap, Names, Types, WorldId};
+use wac_types_parts::parts::{
+    Item, export_at, export_count, identifier, interface_of, is_fresh, is_used_kind, use_at,
+    use_count, world_export_at, world_export_count, world_use_at, world_use_count,
+};
 
 /// Writes the imports at places of a world.
 #[cycle(types)]

@@ -3,11 +3,11 @@
 use crate::mentions::{is_among, mentions, named_type};
 use std::alloc::{AllocError, Global};
 use wac_graph_core::{CompositionGraph, NodeId};
-use wac_graph_scopes::parts::{
-    Item, export_at, export_count, import_at, import_count, interface_of,
-};
 use wac_types_base::{InterfaceId, ItemKind, Type, Types, WorldId};
 use wac_types_names::are_semver_compatible;
+use wac_types_parts::parts::{
+    Item, export_at, export_count, import_at, import_count, interface_of,
+};
 
 /// Where an interface comes from: it is an export of an instance, or an import of the output.
 #[derive(Clone, Copy, Drop)]

@@ -4,8 +4,8 @@ use crate::mentions::{is_among, mentions, named_type};
 use crate::origins::warn_of_instance;
 use std::alloc::{AllocError, Global};
 use wac_graph_core::{CompositionGraph, NodeId, NodeKind};
-use wac_graph_scopes::parts::{export_at, export_count, identifier, interface_of};
 use wac_types_base::{InterfaceId, ItemKind, Types};
+use wac_types_parts::parts::{export_at, export_count, identifier, interface_of};
 
 /// How many accesses are followed from an instance to where it comes from.
 const MAX_ACCESSES: u8 = 100;

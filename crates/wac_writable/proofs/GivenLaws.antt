@@ -18,12 +18,12 @@ use Rattle.wac_types_base.proofs.Stating.{value_with}
 use Rattle.wac_composition.specs.Classes.{is_instance_kind}
 use Rattle.wac_composition.specs.Writable.{item_in, given_in, stands_as}
 use Rattle.wac_composition.specs.NotWritten.{IsImported}
-use Rattle.wac_graph_scopes.specs.declared.parts.Use.{Use}
-use Rattle.wac_graph_scopes.specs.Parts.{exports_of as exports_in, imports_of as imports_in, world_exports_of as world_exports_in}
+use Rattle.wac_types_parts.specs.declared.parts.Use.{Use}
+use Rattle.wac_types_parts.specs.Parts.{exports_of as exports_in, imports_of as imports_in, world_exports_of as world_exports_in}
 use Rattle.wac_writable.specs.Holders.{instance_in}
 use Rattle.wac_writable.specs.Tests.{used_of, given_by}
 use Rattle.wac_writable.specs.Givers.{items_by, givers_by}
-use Rattle.wac_writable.proofs.PartsStated.{exports_are, imports_are, world_exports_are, stated_nothing, stands_or_not}
+use Rattle.wac_types_parts.proofs.PartsStated.{exports_are, imports_are, world_exports_are, stated_nothing, stands_or_not}
 use Rattle.wac_writable.proofs.UseLaws.{imported_decides, nothing_imported}
 
 is_instance : (k : ItemKind) (i : InterfaceId) → instance_in k ≡ Some i → k ≡ ItemKind.Instance i

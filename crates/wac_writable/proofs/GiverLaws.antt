@@ -14,7 +14,7 @@ use Rattle.wac_types_base.specs.Collection.{size_of}
 use Rattle.wac_types_base.specs.Stated.{Stated, identifier_of}
 use Rattle.wac_types_base.proofs.Lists.{among_last}
 use Rattle.wac_composition.specs.NotWritten.{IsImported}
-use Rattle.wac_graph_scopes.specs.declared.parts.Use.{Use}
+use Rattle.wac_types_parts.specs.declared.parts.Use.{Use}
 use Rattle.wac_writable.specs.declared.writable.Test.{Test}
 use Rattle.wac_writable.specs.declared.writable.Giver.{Giver}
 use Rattle.wac_writable.specs.declared.writable.GivenBy.{GivenBy}
@@ -22,19 +22,11 @@ use Rattle.wac_writable.specs.Unnamed.{KnowsAll}
 use Rattle.wac_writable.specs.Tests.{used_of}
 use Rattle.wac_writable.specs.Uses.{TypesFail, AddedFails, UseFails}
 use Rattle.wac_writable.specs.Givers.{instance_of, givers_by, NeedsFailing, AllFine, KnowsBelow, Goes, TellsBeside}
-use Rattle.wac_writable.proofs.UnnamedLaws.{same_id}
+use Rattle.wac_types_parts.proofs.Ids.{same_interface, any_interface}
 use Rattle.wac_writable.proofs.UseLaws.{tells_no}
 use Rattle.wac_types_base.proofs.Lists.{always}
 
 -- ---- sets of interfaces
-
-pub any_among : (id : InterfaceId) (ids : List InterfaceId) → list_any (eq-value.it id) ids ≡ true → Among id ids
-any_among id [] h = absurd (true≢false (sym h))
-any_among id (x ∷ ids) h = go (eq-value.it id x) refl h (any_among id ids)
-  where
-    go : (b : Bool) → eq-value.it id x ≡ b → (b || list_any (eq-value.it id) ids) ≡ true → (list_any (eq-value.it id) ids ≡ true → Among id ids) → Among id (x ∷ ids)
-    go true e h later = inl ((same_id id x).0 e)
-    go false e h later = inr (later h)
 
 -- what is in a set after an insertion
 pub among_inserted : (id : InterfaceId) (old new : List InterfaceId) → new ≡ insert_key eq-value.it old id → (i : InterfaceId) → Among i new → Among i old ⊎ (i ≡ id)
@@ -48,7 +40,7 @@ pub was_there : (id : InterfaceId) (old : List InterfaceId) (is_new : Bool) → 
 was_there id old is_new added e = by (list_any (eq-value.it id) old) refl (sym added ∙ e)
   where
     by : (b : Bool) → list_any (eq-value.it id) old ≡ b → not b ≡ false → Among id old
-    by true h n = any_among id old h
+    by true h n = any_interface id old h
     by false h n = absurd (true≢false n)
 
 module _ (t : Test) where
@@ -102,7 +94,7 @@ module _ (t : Test) where
       where
         by : AddedFails t.is_outer (at id) → ⊥
         by (inl o) = true≢false (sym o ∙ e)
-        by (inr f) = k.fine.each id (any_among id g.fine.keys h) f
+        by (inr f) = k.fine.each id (any_interface id g.fine.keys h) f
 
     pub types_added : t.is_outer ≡ false → (TypesFail t.is_outer (at id) → ⊥) → AddedFails t.is_outer (at id) → ⊥
     types_added e n (inl o) = true≢false (sym o ∙ e)

@@ -27,15 +27,15 @@ use Rattle.wac_types_base.proofs.Loops.{names-with_values, take-all}
 use Rattle.wac_composition.specs.Tests.{same_tree}
 use Rattle.wac_composition.specs.Writable.{is_used_kind, usable, is_resource, is_fresh, root_of, taken, there_of, holder, with_roots, is_taken_as, is_given, is_used_value}
 use Rattle.wac_composition.specs.Writable.{Holder as Held}
-use Rattle.wac_graph_scopes.specs.Parts.{exports_of as exports_in, IsUseAt, used_kind, used_if, taken_in}
-use Rattle.wac_graph_scopes.specs.declared.parts.Use.{Use}
+use Rattle.wac_types_parts.specs.Parts.{exports_of as exports_in, IsUseAt, used_kind, used_if, taken_in}
+use Rattle.wac_types_parts.specs.declared.parts.Use.{Use}
 use Rattle.wac_types_fit.proofs.Items.{value_at-among}
-use Rattle.wac_graph_scopes.proofs.HandleLaws.{take_zero}
-use Rattle.wac_graph_scopes.proofs.PartLaws.{exports_there, exports_missing, export_stands}
+use Rattle.wac_types_parts.proofs.Lists.{take_zero}
+use Rattle.wac_types_parts.proofs.PartLaws.{exports_there, exports_missing, export_stands}
 use Rattle.wac_writable.specs.declared.holder.Holder.{Holder}
 use Rattle.wac_writable.specs.Holders.{Shows, Holds, IsFilled, AddsRoots, KnowsValues, fresh_roots, named_roots, with_use, is_used_as}
 use Rattle.wac_writable.proofs.UnnamedLaws.{any_at}
-use Rattle.wac_writable.proofs.PartsStated.{exports_are, stands_or_not}
+use Rattle.wac_types_parts.proofs.PartsStated.{exports_are, stands_or_not}
 
 -- ---- lists
 

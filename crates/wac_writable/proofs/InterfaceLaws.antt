@@ -24,7 +24,7 @@ use Rattle.wac_composition.specs.NotWritten.{IsGiven, CannotBeWritten, an_instan
 use Rattle.wac_composition.proofs.NotWritten.{any_decides, given_decides}
 use Rattle.wac_composition.proofs.NotFound.{written_decides}
 use Rattle.wac_composition.proofs.Lists.{mapped_among}
-use Rattle.wac_graph_scopes.specs.Parts.{exports_of as exports_in, IsOfInterface}
+use Rattle.wac_types_parts.specs.Parts.{exports_of as exports_in, IsOfInterface}
 use Rattle.wac_writable.specs.declared.writable.Which.{Which}
 use Rattle.wac_writable.specs.Holders.{interface_holder}
 use Rattle.wac_writable.specs.Items.{item_unwritable}
@@ -32,7 +32,7 @@ use Rattle.wac_writable.specs.Tests.{tested_unwritable, exports_unwritable, inte
 use Rattle.wac_writable.proofs.UnnamedLaws.{any_at}
 use Rattle.wac_writable.proofs.ItemLaws.{both_decide}
 use Rattle.wac_writable.proofs.ReasonLaws.{reason_of}
-use Rattle.wac_writable.proofs.PartsStated.{stated_nothing, stands_or_not, exports_are}
+use Rattle.wac_types_parts.proofs.PartsStated.{stated_nothing, stands_or_not, exports_are}
 
 -- ---- loops over items
 

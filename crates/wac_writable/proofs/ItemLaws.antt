@@ -24,10 +24,10 @@ use Rattle.wac_types_fit.proofs.Unfolded.{root_tree, source_tree}
 use Rattle.wac_composition.specs.Tests.{same_tree}
 use Rattle.wac_composition.specs.Writable.{is_resource, is_value_type, is_fresh}
 use Rattle.wac_composition.proofs.NotWritten.{trees_decide}
-use Rattle.wac_graph_scopes.specs.Parts.{IsRootName}
+use Rattle.wac_types_parts.specs.Parts.{IsRootName}
 use Rattle.wac_writable.specs.declared.holder.Holder.{Holder}
 use Rattle.wac_writable.specs.Holders.{value_in, resource_in, is_used_as, same_item, resource_roots}
-use Rattle.wac_writable.proofs.PartsStated.{stated_nothing, stands_or_not}
+use Rattle.wac_types_parts.proofs.PartsStated.{stated_nothing, stands_or_not}
 
 -- ---- one tree
 

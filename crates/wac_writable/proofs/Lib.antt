@@ -1,11 +1,8 @@
 pub mod CoreItems
-pub mod PartsStated
 pub mod UnnamedLaws
 pub mod ItemLaws
 pub mod HolderLaws
 pub mod ValueLaws
-pub mod CoreRefused
-pub mod StockLaws
 pub mod SimpleLaws
 pub mod ReasonLaws
 pub mod InterfaceLaws

@@ -3,7 +3,7 @@ use Rattle.std.proofs.Common.{◌≡◌, ◌||◌, ◌+◌, ℕ, Bool, false, Li
 use Rattle.std.specs.List.{list_any}
 use Rattle.std.proofs.lemmas.List.Folds.{list_any-append}
 use Rattle.wac_types_base.proofs.Looked.{take-one_more}
-use Rattle.wac_graph_scopes.proofs.HandleLaws.{take_zero}
+use Rattle.wac_types_parts.proofs.Lists.{take_zero}
 
 pub none_taken : {X : Type 0} (p : X → Bool) (xs : List X) → list_any p (take 0 xs) ≡ false
 none_taken p xs = ap (list_any p) (take_zero xs)

@@ -27,7 +27,7 @@ use Rattle.wac_composition.specs.Writable.{Holder as Held}
 use Rattle.wac_composition.specs.NotWritten.{a_value, module_as_type}
 use Rattle.wac_composition.proofs.NotWritten.{stated_again}
 use Rattle.wac_composition.proofs.NotFound.{written_decides}
-use Rattle.wac_graph_scopes.specs.Parts.{IsOfInterface, IsOfWorld}
+use Rattle.wac_types_parts.specs.Parts.{IsOfInterface, IsOfWorld}
 use Rattle.wac_writable.specs.Values.{lacks_root, id_fails, slot_fails, places_fail}
 use Rattle.wac_writable.specs.Items.{item_unwritable, IsSimple, module_unwritable, not_writable}
 use Rattle.wac_writable.proofs.ValueLaws.{AllValues}

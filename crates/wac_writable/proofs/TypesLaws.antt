@@ -24,14 +24,14 @@ use Rattle.wac_composition.proofs.Closures.{filter_among, among_filter}
 use Rattle.wac_composition.proofs.NotWritten.{any_decides, given_decides, resource_decides}
 use Rattle.wac_composition.proofs.NotFound.{written_decides}
 use Rattle.wac_composition.proofs.Lists.{mapped_among}
-use Rattle.wac_graph_scopes.specs.Parts.{exports_of as exports_in}
-use Rattle.wac_graph_scopes.proofs.PartLaws.{exports_there, exports_missing}
+use Rattle.wac_types_parts.specs.Parts.{exports_of as exports_in}
+use Rattle.wac_types_parts.proofs.PartLaws.{exports_there, exports_missing}
 use Rattle.wac_writable.specs.declared.writable.Which.{Which}
 use Rattle.wac_writable.specs.Holders.{interface_holder}
 use Rattle.wac_writable.specs.Items.{item_unwritable}
 use Rattle.wac_writable.specs.Tests.{is_tested, ungiven_unwritable, tested_unwritable, exports_unwritable, interface_unwritable}
 use Rattle.wac_writable.specs.Uses.{TypesFail}
-use Rattle.wac_writable.proofs.PartsStated.{stated_nothing, stands_or_not, exports_are}
+use Rattle.wac_types_parts.proofs.PartsStated.{stated_nothing, stands_or_not, exports_are}
 use Rattle.wac_writable.proofs.InterfaceLaws.{SomeItem}
 use Rattle.wac_writable.proofs.UseLaws.{tells_no}
 

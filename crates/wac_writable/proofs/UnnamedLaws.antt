@@ -12,6 +12,7 @@ use Rattle.wac_types_base.specs.declared.defined.Interface.{Interface}
 use Rattle.wac_types_base.specs.declared.defined.UsedType.{UsedType}
 use Rattle.wac_types_base.specs.contracts.ids.InterfaceIdPartialEq.TheImpl.{eq-value}
 use Rattle.wac_types_base.specs.Entries.{Name}
+use Rattle.wac_types_parts.proofs.Ids.{same_interface}
 use Rattle.wac_types_base.specs.Record.{Collection}
 use Rattle.wac_types_base.specs.Graph.{Wholes, no_more, more, hole}
 use Rattle.wac_types_base.specs.Collection.{Shape, Stands, IsAcyclic, interface_entry, use_names}
@@ -21,10 +22,10 @@ use Rattle.wac_types_base.proofs.Stating.{stated_uses, interface_stated}
 use Rattle.wac_composition.specs.Merging.{reached_at, reached}
 use Rattle.wac_composition.specs.Writable.{some_unnamed}
 use Rattle.wac_types_base.specs.Parts.{identifier_in}
-use Rattle.wac_graph_scopes.specs.Parts.{uses_of as uses_in, world_uses_of as world_uses_in, interface_in, IsUseAt}
-use Rattle.wac_graph_scopes.specs.declared.parts.Use.{Use}
+use Rattle.wac_types_parts.specs.Parts.{uses_of as uses_in, world_uses_of as world_uses_in, interface_in, IsUseAt}
+use Rattle.wac_types_parts.specs.declared.parts.Use.{Use}
 use Rattle.wac_writable.specs.Unnamed.{uses_unnamed, world_uses_unnamed, is_unnamed, found_of, Knows, KnowsAll, Learns}
-use Rattle.wac_writable.proofs.PartsStated.{stated_nothing, stands_or_not, uses_are, world_uses_are, identifier_is}
+use Rattle.wac_types_parts.proofs.PartsStated.{stated_nothing, stands_or_not, uses_are, world_uses_are, identifier_is}
 
 abbrev lacks : Stated → Bool
 lacks x = is_none (identifier_of x)
@@ -97,14 +98,11 @@ module _ (c : Collection) (us : List (Name × UsedType)) (at : ℕ) (u : Use) (i
 
 -- ---- what is remembered
 
-pub same_id : (a b : InterfaceId) → IsTrue (eq-value.it a b) ↔ (a ≡ b)
-same_id a b = search rules
-
 id_cases : (a b : InterfaceId) → (eq-value.it a b ≡ false) ⊎ (a ≡ b)
 id_cases a b = by (eq-value.it a b) refl
   where
     by : (r : Bool) → eq-value.it a b ≡ r → (eq-value.it a b ≡ false) ⊎ (a ≡ b)
-    by true e = inr ((same_id a b).0 e)
+    by true e = inr ((same_interface a b).0 e)
     by false e = inl e
 
 pub learns_nothing : (c : Collection) (es : List (InterfaceId × Bool)) → Knows c es → Learns c es es

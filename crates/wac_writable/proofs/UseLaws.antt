@@ -22,9 +22,9 @@ use Rattle.wac_composition.specs.Writable.{there_of, item_in, given_in, stands_a
 use Rattle.wac_composition.specs.NotWritten.{Needs, a_use, under_use, under_item, IsImported}
 use Rattle.wac_composition.proofs.NotWritten.{trees_decide}
 use Rattle.wac_composition.proofs.Lists.{mapped_among}
-use Rattle.wac_graph_scopes.specs.declared.parts.Use.{Use}
-use Rattle.wac_graph_scopes.specs.Parts.{IsUseAt}
-use Rattle.wac_graph_scopes.proofs.HandleLaws.{take_zero}
+use Rattle.wac_types_parts.specs.declared.parts.Use.{Use}
+use Rattle.wac_types_parts.specs.Parts.{IsUseAt}
+use Rattle.wac_types_parts.proofs.Lists.{take_zero}
 use Rattle.wac_writable.specs.Tests.{used_of}
 use Rattle.wac_writable.specs.Uses.{AddedFails, UseFails, SomeNeeded, NeededBy, FailsAt, SomeUse, SomeItem}
 use Rattle.wac_writable.proofs.InterfaceLaws.{HasParts}

@@ -22,9 +22,9 @@ use Rattle.wac_types_fit.specs.Trees.{OneOrApart}
 use Rattle.wac_composition.specs.Writable.{value_fails, value_at_label, place_fails, is_used_value}
 use Rattle.wac_composition.specs.Writable.{Holder as Held}
 use Rattle.wac_composition.proofs.NotWritten.{stated_again}
-use Rattle.wac_graph_scopes.specs.Parts.{IsRootName}
+use Rattle.wac_types_parts.specs.Parts.{IsRootName}
 use Rattle.wac_writable.specs.declared.holder.Holder.{Holder}
-use Rattle.wac_graph_scopes.proofs.PrintLaws.{same_id}
+use Rattle.wac_types_parts.proofs.Ids.{same_type as same_id}
 use Rattle.wac_writable.specs.Holders.{Holds, Keeps, Remembers, tested_of}
 use Rattle.wac_writable.specs.Values.{IsHandleOf, lacks_root, fails_unused, value_in_slot, id_fails, slot_fails, places_fail}
 use Rattle.wac_writable.proofs.UnnamedLaws.{any_at}

@@ -8,8 +8,8 @@ use Rattle.wac_types_base.specs.Record.{Collection}
 use Rattle.wac_types_base.specs.Collection.{size_of}
 use Rattle.wac_types_base.specs.Stated.{Stated, Used, stated_of}
 use Rattle.wac_types_base.proofs.Stating.{stated_uses}
-use Rattle.wac_graph_scopes.specs.declared.parts.Use.{Use}
-use Rattle.wac_graph_scopes.specs.Parts.{IsUseAt}
+use Rattle.wac_types_parts.specs.declared.parts.Use.{Use}
+use Rattle.wac_types_parts.specs.Parts.{IsUseAt}
 use Rattle.wac_writable.specs.declared.writable.Test.{Test}
 use Rattle.wac_writable.specs.declared.writable.Giver.{Giver}
 use Rattle.wac_writable.specs.Tests.{used_of}

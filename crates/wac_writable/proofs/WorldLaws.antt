@@ -25,7 +25,7 @@ use Rattle.wac_composition.proofs.NotWritten.{any_decides}
 use Rattle.wac_composition.proofs.NotFound.{written_decides}
 use Rattle.wac_composition.proofs.Lists.{mapped_among}
 use Rattle.wac_types_base.specs.Parts.{identifier_in}
-use Rattle.wac_graph_scopes.specs.Parts.{IsOfWorld, interface_in, imports_of as imports_in, world_exports_of as world_exports_in}
+use Rattle.wac_types_parts.specs.Parts.{IsOfWorld, interface_in, imports_of as imports_in, world_exports_of as world_exports_in}
 use Rattle.wac_writable.specs.declared.writable.Which.{Which}
 use Rattle.wac_writable.specs.Items.{item_unwritable}
 use Rattle.wac_writable.specs.Tests.{interface_unwritable, some_ungiven, some_unwritable, items_unwritable, wrapped, wrapped_in}
@@ -33,7 +33,7 @@ use Rattle.wac_writable.specs.Uses.{AddedFails, UseFails, NeededBy, SomeUse, Som
 use Rattle.wac_writable.specs.Givers.{WorldNeeds}
 use Rattle.wac_writable.proofs.ItemLaws.{both_decide}
 use Rattle.wac_writable.proofs.ReasonLaws.{reason_of}
-use Rattle.wac_writable.proofs.PartsStated.{imports_are, world_exports_are, identifier_is}
+use Rattle.wac_types_parts.proofs.PartsStated.{imports_are, world_exports_are, identifier_is}
 use Rattle.wac_writable.proofs.InterfaceLaws.{items_decide, interface_item, type_stands, same_identifier, untyped_interface}
 use Rattle.wac_writable.proofs.UseLaws.{needed_split, item_needed}
 

@@ -10,8 +10,8 @@ use Rattle.wac_types_base.specs.Graph.{Among}
 use Rattle.wac_types_base.specs.Collection.{size_of}
 use Rattle.wac_types_base.specs.Stated.{Stated, stated_of, uses_of, imports_of, exports_of, stated_world}
 use Rattle.wac_composition.specs.NotWritten.{IsImported, given_to_exports}
-use Rattle.wac_graph_scopes.specs.Parts.{imports_of as imports_in, world_exports_of as exports_in}
-use Rattle.wac_graph_scopes.specs.declared.parts.Use.{Use}
+use Rattle.wac_types_parts.specs.Parts.{imports_of as imports_in, world_exports_of as exports_in}
+use Rattle.wac_types_parts.specs.declared.parts.Use.{Use}
 use Rattle.wac_writable.specs.declared.writable.Test.{Test}
 use Rattle.wac_writable.specs.declared.writable.Giver.{Giver}
 use Rattle.wac_writable.specs.declared.writable.GivenBy.{GivenBy}

@@ -18,9 +18,9 @@ use Rattle.wac_types_fit.specs.Trees.{OneOrApart}
 use Rattle.wac_composition.specs.Tests.{same_tree}
 use Rattle.wac_composition.specs.Writable.{is_resource, is_fresh, is_value_type, root_of, is_given, is_used_value, holder, value_fails}
 use Rattle.wac_composition.specs.Writable.{Holder as Held}
-use Rattle.wac_graph_scopes.specs.declared.parts.Use.{Use}
-use Rattle.wac_graph_scopes.specs.declared.parts.Item.{Item}
-use Rattle.wac_graph_scopes.specs.Parts.{taken_in}
+use Rattle.wac_types_parts.specs.declared.parts.Use.{Use}
+use Rattle.wac_types_parts.specs.declared.parts.Item.{Item}
+use Rattle.wac_types_parts.specs.Parts.{taken_in}
 use Rattle.wac_writable.specs.declared.holder.Holder.{Holder}
 
 -- the items that are used, in their order, and the same root names

@@ -10,7 +10,7 @@ use Rattle.wac_types_base.specs.Entries.{Name}
 use Rattle.wac_types_base.specs.Stated.{stated_of}
 use Rattle.wac_composition.specs.Writable.{unwritable, writable_module}
 use Rattle.wac_composition.specs.Writable.{Holder as Held}
-use Rattle.wac_graph_scopes.specs.Parts.{IsOfInterface, IsOfWorld}
+use Rattle.wac_types_parts.specs.Parts.{IsOfInterface, IsOfWorld}
 
 -- the item of an id cannot be written under a name in a holder
 abbrev pub item_unwritable : Collection → Bool → Name → ItemKind → Held → Bool

@@ -5,4 +5,3 @@ pub mod Items
 pub mod Tests
 pub mod Uses
 pub mod Givers
-pub mod Stocked

@@ -13,10 +13,10 @@ use Rattle.wac_types_base.specs.Stated.{Stated, Used, stated_of, world_of}
 use Rattle.wac_composition.specs.Writable.{holder, is_given, item_in, given_in, stands_as, unwritable, as_defined}
 use Rattle.wac_composition.specs.Writable.{Holder as Held}
 use Rattle.wac_composition.specs.NotWritten.{component_holder, ComponentFails, PackageCannotBeWritten}
-use Rattle.wac_graph_scopes.specs.declared.parts.Use.{Use}
-use Rattle.wac_graph_scopes.specs.declared.parts.Item.{Item}
+use Rattle.wac_types_parts.specs.declared.parts.Use.{Use}
+use Rattle.wac_types_parts.specs.declared.parts.Item.{Item}
 use Rattle.wac_types_base.specs.Parts.{identifier_in}
-use Rattle.wac_graph_scopes.specs.Parts.{exports_of as exports_in, imports_of as imports_in, world_exports_of as world_exports_in, interface_in}
+use Rattle.wac_types_parts.specs.Parts.{exports_of as exports_in, imports_of as imports_in, world_exports_of as world_exports_in, interface_in}
 use Rattle.wac_writable.specs.declared.holder.Holder.{Holder}
 use Rattle.wac_writable.specs.declared.writable.Test.{Test}
 use Rattle.wac_writable.specs.declared.writable.Which.{Which}

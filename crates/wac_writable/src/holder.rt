@@ -16,18 +16,18 @@ ghost use Rattle.wac_writable.specs.Holders.{Shows, Holds, IsFilled, AddsRoots, 
 ghost use Rattle.wac_writable.specs.Holders.{TellsUsedAs, TellsUsed, TellsGiven, same_item, value_in, resource_in};
 ghost use Rattle.wac_writable.specs.Holders.{resource_roots, with_use, with_taken, with_fresh};
 
-use crate::maps::insert_under;
 use indexmap::IndexMap;
 use std::alloc::{AllocError, Global};
-use wac_graph_scopes::parts::{
-    Item, Use, export_at, export_count, import_at, import_count, root_name, taken, use_at,
-    use_count, world_export_at, world_export_count, world_use_at, world_use_count,
-};
 use wac_types_base::{
     DefinedTypeId, InterfaceId, ItemKind, NamedMap, Names, ResourceId, Type, Types, ValueType,
     WorldId,
 };
 use wac_types_fit::{SubtypeChecker, SubtypeError, new_cache};
+use wac_types_parts::maps::insert_under;
+use wac_types_parts::parts::{
+    Item, Use, export_at, export_count, import_at, import_count, root_name, taken, use_at,
+    use_count, world_export_at, world_export_count, world_use_at, world_use_count,
+};
 
 /// Used items under the names that they have here, the root names of resources, and which value types were tested
 /// here: whether they fail.

@@ -2,13 +2,10 @@
 #![tactic(auto)]
 
 pub mod holder;
-mod laws;
-pub mod maps;
 mod modules;
 pub mod unnamed;
 pub mod writable;
 
 pub use holder::Holder;
-pub use laws::refused_is_unwritable;
 pub use unnamed::Unnamed;
 pub use writable::{Test, is_unwritable_definition, is_unwritable_package, unwritable_outer};

@@ -7,8 +7,8 @@ ghost use Rattle.wac_writable.specs.Unnamed.{is_unnamed, uses_unnamed, world_use
 use indexmap::IndexMap;
 use std::alloc::{AllocError, Global};
 use std::marker::Model;
-use wac_graph_scopes::parts::{identifier, use_at, use_count, world_use_at, world_use_count};
 use wac_types_base::{InterfaceId, Types, WorldId};
+use wac_types_parts::parts::{identifier, use_at, use_count, world_use_at, world_use_count};
 
 /// Of interfaces, whether one without identifier is reached from them by uses: each is looked at once.
 #[derive(Drop)]

@@ -22,13 +22,13 @@ use crate::modules::is_writable_module;
 use crate::unnamed::Unnamed;
 use indexmap::IndexSet;
 use std::alloc::{AllocError, Global};
-use wac_graph_scopes::parts::{
+use wac_types_base::{
+    DefinedTypeId, InterfaceId, ItemKind, ModuleTypeId, ResourceId, Type, Types, ValueType, WorldId,
+};
+use wac_types_parts::parts::{
     Item, Use, export_at, export_count, export_named, identifier, import_at, import_count,
     import_named, interface_of, root_name, use_at, use_count, world_export_at, world_export_count,
     world_export_named, world_of, world_use_at, world_use_count,
-};
-use wac_types_base::{
-    DefinedTypeId, InterfaceId, ItemKind, ModuleTypeId, ResourceId, Type, Types, ValueType, WorldId,
 };
 
 /// A test of types: which interfaces use one without identifier, and whether the types stand in an outer import.

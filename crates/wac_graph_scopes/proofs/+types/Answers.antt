@@ -7,9 +7,9 @@ use Rattle.wac_types_fit.specs.Trees.{tree_in}
 use Rattle.wac_graph_bytes.specs.declared.value.Description.{Description}
 use Rattle.wac_graph_bytes.specs.Typing.{Known}
 use Rattle.wac_graph_bytes.specs.Views.{declarations_of}
-use Rattle.wac_graph_scopes.specs.Parts.{exports_of}
+use Rattle.wac_types_parts.specs.Parts.{exports_of}
 use Rattle.wac_graph_scopes.specs.Items.{Describes, ItemsWritten, StatesInstance}
-use Rattle.wac_graph_scopes.proofs.PartLaws.{exports_there, name_at}
+use Rattle.wac_types_parts.proofs.PartLaws.{exports_there, name_at}
 use Rattle.wac_graph_scopes.proofs.ItemLaws.{used_deeper, index_follows}
 use Rattle.wac_graph_scopes.proofs.WritingLaws.{writes_none, writes_more, states_instance, instance_described, interface_stands, instance_reads, component_reads, type_given, instance_declared, component_declared, described_entry, no_entry, take_or, all_taken, put_there, put_keeps, among_has, value_here}
 use Rattle.wac_types_base.proofs.Lists.{not_among}
@@ -24,7 +24,7 @@ use Rattle.wac_types_fit.proofs.Items.{Among-last}
 use Rattle.wac_graph_scopes.specs.Items.{IsInstanceAt, sort_of}
 use Rattle.wac_types_base.proofs.Looked.{put_name-new}
 use Rattle.wac_graph_scopes.specs.Orders.{IsOrder}
-use Rattle.wac_graph_scopes.specs.Parts.{imports_of, world_exports_of}
+use Rattle.wac_types_parts.specs.Parts.{imports_of, world_exports_of}
 use Rattle.wac_graph_scopes.specs.Imports.{WritesWorld, MayDescribeIn, ExportsWritten, names_at}
 use Rattle.wac_graph_scopes.specs.Items.{StatesComponent}
 use Rattle.wac_graph_scopes.proofs.OrderLaws.{distinct-left, distinct-right}

@@ -3,7 +3,7 @@ use Rattle.wac_types_base.specs.declared.item.ItemKind.{ItemKind}
 use Rattle.wac_types_base.specs.Graph.{Among}
 use Rattle.wac_types_base.specs.Entries.{Name, names_of, AreDistinct}
 use Rattle.wac_types_base.specs.Collection.{Stands, size_of}
-use Rattle.wac_graph_scopes.specs.Parts.{imports_of}
+use Rattle.wac_types_parts.specs.Parts.{imports_of}
 use Rattle.wac_graph_scopes.specs.Imports.{IsNewAt, names_at, WritesWorld, ExportsWritten}
 use Rattle.wac_graph_bytes.specs.Typing.{Worlds, Scope}
 use Rattle.wac_graph_scopes.specs.Items.{StandsAround, WritesSome, ItemsWritten}

@@ -11,8 +11,8 @@ use Rattle.wac_types_base.proofs.Loops.{get-place}
 use Rattle.wac_types_base.proofs.Copying.{get_or-Among}
 use Rattle.wac_types_base.proofs.Used.{place_or}
 use Rattle.wac_types_merge.proofs.Families.{use_inside}
-use Rattle.wac_graph_scopes.specs.Parts.{exports_of}
-use Rattle.wac_graph_scopes.proofs.PartLaws.{uses_there, exports_there}
+use Rattle.wac_types_parts.specs.Parts.{exports_of}
+use Rattle.wac_types_parts.proofs.PartLaws.{uses_there, exports_there}
 use Rattle.wac_composition.specs.Asks.{used_by, asked_for}
 use Rattle.wac_graph_asks.specs.AskedUses.{with_used, all_with_used, used_directly, used_by_items, NotesUse, AskedBelow}
 use Rattle.wac_graph_asks.proofs.Using.{other_uses}

@@ -2,7 +2,7 @@ use Rattle.std.proofs.Common.{◌++◌, sym, ap, ◌∙◌, arith}
 use Rattle.std.proofs.lemmas.List.{append-nil}
 use Rattle.std.specs.Prelude.{not, is_some}
 use Rattle.wac_types_base.proofs.Loops.{take-all}
-use Rattle.wac_graph_scopes.specs.Parts.{imports_of}
+use Rattle.wac_types_parts.specs.Parts.{imports_of}
 use Rattle.wac_graph_asks.specs.AskedNodes.{unbound_asks}
 use Rattle.wac_graph_asks.proofs.Filling.{unbound_pushed, unbound_passed}
 use Rattle.wac_graph_asks.proofs.asks.push_unbound.Goals as goal

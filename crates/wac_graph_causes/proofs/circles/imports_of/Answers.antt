@@ -1,5 +1,5 @@
 use Rattle.std.proofs.Common.{sym, ◌∙◌}
-use Rattle.wac_graph_scopes.proofs.PartLaws.{imports_missing}
+use Rattle.wac_types_parts.proofs.PartLaws.{imports_missing}
 use Rattle.wac_graph_causes.proofs.circles.imports_of.Goals as goal
 
 pub returns-then-not-has : goal.returns-then-not-has

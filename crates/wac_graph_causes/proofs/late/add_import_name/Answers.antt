@@ -3,8 +3,8 @@ use Rattle.wac_types_base.specs.Entries.{names_of, put_name}
 use Rattle.wac_types_base.specs.Graph.{Among}
 use Rattle.wac_types_base.proofs.Looked.{put_name-new, distinct-before, take-one_more}
 use Rattle.std.proofs.lemmas.Result.{on_ok_weaker}
-use Rattle.wac_graph_scopes.specs.Parts.{imports_of}
-use Rattle.wac_graph_scopes.proofs.PartLaws.{name_at}
+use Rattle.wac_types_parts.specs.Parts.{imports_of}
+use Rattle.wac_types_parts.proofs.PartLaws.{name_at}
 use Rattle.wac_graph_causes.proofs.late.add_import_name.Goals as goal
 
 pub returns-in-Some : goal.returns-in-Some

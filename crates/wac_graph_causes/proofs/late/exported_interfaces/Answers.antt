@@ -1,5 +1,5 @@
 use Rattle.std.proofs.Common.{sym, ap, ◌∙◌}
-use Rattle.wac_graph_scopes.proofs.PartLaws.{world_exports_missing}
+use Rattle.wac_types_parts.proofs.PartLaws.{world_exports_missing}
 use Rattle.wac_graph_causes.specs.Late.{interface_items}
 use Rattle.wac_graph_causes.proofs.late.exported_interfaces.Goals as goal
 

@@ -1,7 +1,7 @@
 use Rattle.std.proofs.Common.{◌≤◌, length, arith, ◌∙◌}
 use Rattle.std.proofs.lemmas.List.{take_all, length-map}
 use Rattle.wac_types_base.specs.Entries.{names_of}
-use Rattle.wac_graph_scopes.specs.Parts.{imports_of}
+use Rattle.wac_types_parts.specs.Parts.{imports_of}
 use Rattle.wac_graph_causes.proofs.late.import_names.Goals as goal
 
 pub returns : goal.returns

@@ -1,5 +1,5 @@
 use Rattle.std.proofs.Common.{sym, ap, ◌∙◌}
-use Rattle.wac_graph_scopes.proofs.PartLaws.{imports_missing}
+use Rattle.wac_types_parts.proofs.PartLaws.{imports_missing}
 use Rattle.wac_graph_causes.specs.Late.{interface_items}
 use Rattle.wac_graph_causes.proofs.late.imported_interfaces.Goals as goal
 

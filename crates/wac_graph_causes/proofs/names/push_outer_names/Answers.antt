@@ -1,5 +1,5 @@
 use Rattle.std.proofs.Common.{ap, ◌∙◌, arith}
-use Rattle.wac_graph_scopes.specs.Parts.{imports_of}
+use Rattle.wac_types_parts.specs.Parts.{imports_of}
 use Rattle.wac_graph_causes.proofs.Dependencies.{outer_next}
 use Rattle.wac_graph_causes.proofs.names.push_outer_names.Goals as goal
 use Rattle.wac_graph_causes.proofs.names.push_outer_names.Goals.{in-Some+in_ok-push_copy, in_default}

@@ -5,7 +5,7 @@ use Rattle.wac_types_base.specs.Entries.{Name}
 use Rattle.wac_types_base.specs.Stated.{stated_of}
 use Rattle.wac_types_base.proofs.Loops.{take-all}
 use Rattle.wac_composition.specs.Circles.{used_inside}
-use Rattle.wac_graph_scopes.specs.Parts.{exports_of, uses_of}
+use Rattle.wac_types_parts.specs.Parts.{exports_of, uses_of}
 use Rattle.wac_graph_causes.specs.Orders.{AddsUsed, interfaces_used, used_in_items}
 use Rattle.wac_graph_causes.proofs.CircleLaws.{flat_more}
 use Rattle.wac_graph_causes.proofs.Orders.{adds_as, adds_both, adds_none}

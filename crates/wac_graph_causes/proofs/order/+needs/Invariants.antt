@@ -1,7 +1,7 @@
 use Rattle.std.proofs.Common.{◌+◌, ◌*◌, take}
 use Rattle.wac_types_base.specs.declared.item.ItemKind.{ItemKind}
 use Rattle.wac_types_base.specs.Collection.{size_of}
-use Rattle.wac_graph_scopes.specs.Parts.{exports_of}
+use Rattle.wac_types_parts.specs.Parts.{exports_of}
 use Rattle.wac_graph_causes.specs.Orders.{AddsUsed, used_in_items}
 use Rattle.wac_graph_causes.proofs.order.+needs.Given as goal
 

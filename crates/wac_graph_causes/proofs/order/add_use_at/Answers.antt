@@ -6,7 +6,7 @@ use Rattle.wac_types_base.specs.declared.item.ItemKind.{ItemKind}
 use Rattle.wac_types_base.specs.declared.defined.UsedType.{UsedType}
 use Rattle.wac_types_base.specs.Entries.{Name}
 use Rattle.wac_types_base.specs.Stated.{stated_of}
-use Rattle.wac_graph_scopes.specs.Parts.{uses_of}
+use Rattle.wac_types_parts.specs.Parts.{uses_of}
 use Rattle.wac_graph_causes.specs.Orders.{AddsUsed}
 use Rattle.wac_graph_causes.proofs.order.add_use_at.Goals as goal
 

@@ -5,7 +5,7 @@ use Rattle.wac_types_base.specs.Entries.{Name}
 use Rattle.wac_types_base.specs.Stated.{stated_of}
 use Rattle.wac_types_base.proofs.Lists.{there_is}
 use Rattle.wac_types_base.proofs.Loops.{map-one_more, take-all}
-use Rattle.wac_graph_scopes.specs.Parts.{uses_of}
+use Rattle.wac_types_parts.specs.Parts.{uses_of}
 use Rattle.wac_graph_causes.specs.Orders.{interfaces_used}
 use Rattle.wac_graph_causes.proofs.Orders.{adds_as, adds_both, adds_none}
 use Rattle.wac_graph_causes.proofs.order.add_uses.Goals as goal

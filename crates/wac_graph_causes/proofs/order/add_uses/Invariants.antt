@@ -1,5 +1,5 @@
 use Rattle.std.proofs.Common.{take}
-use Rattle.wac_graph_scopes.specs.Parts.{uses_of}
+use Rattle.wac_types_parts.specs.Parts.{uses_of}
 use Rattle.wac_graph_causes.specs.Orders.{AddsUsed, interfaces_used}
 use Rattle.wac_graph_causes.proofs.order.add_uses.Given as goal
 

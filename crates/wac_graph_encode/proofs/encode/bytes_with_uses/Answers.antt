@@ -1,5 +1,5 @@
 use Rattle.std.proofs.Common.{List, sym, subst}
-use Rattle.wac_graph_scopes.specs.declared.imports.Called.{Called}
+use Rattle.wac_types_parts.specs.declared.called.Called.{Called}
 use Rattle.wac_graph_asks.specs.Outers.{IsOuters}
 use Rattle.wac_graph_encode.proofs.encode.bytes_with_uses.Goals as goal
 

@@ -2,7 +2,7 @@ use Rattle.std.proofs.Common.{List, sym, subst, inl}
 use Rattle.wac_types_base.specs.Entries.{Name, names_of}
 use Rattle.wac_types_base.proofs.Loops.{get-place, take-all}
 use Rattle.wac_types_base.proofs.Looked.{among-get}
-use Rattle.wac_graph_scopes.specs.declared.imports.Called.{Called}
+use Rattle.wac_types_parts.specs.declared.called.Called.{Called}
 use Rattle.wac_graph_scopes.specs.declared.imports.SortIndex.{SortIndex}
 use Rattle.wac_graph_encode.specs.Ready.{AddsNames, called_names}
 use Rattle.wac_graph_encode.specs.Writing.{AreCalled}

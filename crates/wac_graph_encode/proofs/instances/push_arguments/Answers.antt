@@ -7,7 +7,7 @@ use Rattle.wac_types_base.proofs.Looked.{among-get}
 use Rattle.wac_types_fit.proofs.Items.{name-among}
 use Rattle.wac_graph_bytes.specs.declared.entry.NamedIndex.{NamedIndex}
 use Rattle.wac_graph_bytes.specs.Views.{arguments_view}
-use Rattle.wac_graph_scopes.specs.Parts.{imports_of}
+use Rattle.wac_types_parts.specs.Parts.{imports_of}
 use Rattle.wac_graph_encode.specs.Writing.{AreGivenUnder}
 use Rattle.wac_graph_encode.proofs.WritingLaws.{given_next}
 use Rattle.wac_graph_encode.proofs.instances.push_arguments.Goals as goal

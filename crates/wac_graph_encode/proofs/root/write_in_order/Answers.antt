@@ -3,7 +3,7 @@ use Rattle.std.proofs.lemmas.List.{append-nil, take_all}
 use Rattle.std.proofs.lemmas.Option.{slice_get-get_or}
 use Rattle.wac_types_base.specs.Entries.{Name, names_of}
 use Rattle.wac_graph_scopes.specs.Imports.{WritesWorld, names_at}
-use Rattle.wac_graph_scopes.specs.Parts.{imports_of}
+use Rattle.wac_types_parts.specs.Parts.{imports_of}
 use Rattle.wac_graph_scopes.proofs.ImportLaws.{next_names, next_new}
 use Rattle.wac_graph_encode.proofs.root.write_in_order.Goals as goal
 

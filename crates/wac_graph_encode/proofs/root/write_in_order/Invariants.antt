@@ -3,7 +3,7 @@ use Rattle.wac_types_base.specs.Entries.{AreDistinct, Name, names_of}
 use Rattle.wac_types_base.specs.Graph.{Among}
 use Rattle.wac_graph_bytes.specs.Typing.{Scope, Worlds}
 use Rattle.wac_graph_scopes.specs.Imports.{IsNewAt, WritesWorld, names_at}
-use Rattle.wac_graph_scopes.specs.Parts.{imports_of}
+use Rattle.wac_types_parts.specs.Parts.{imports_of}
 use Rattle.wac_graph_encode.proofs.root.write_in_order.Given as goal
 
 abbrev pub invariant-loop-at : goal.invariant-loop-at

@@ -6,7 +6,7 @@ use Rattle.wac_graph_scopes.specs.declared.items.ItemScope.{ItemScope}
 use Rattle.wac_graph_scopes.specs.Imports.{names_at}
 use Rattle.wac_graph_scopes.specs.Items.{IsItemScope}
 use Rattle.wac_graph_scopes.specs.Orders.{IsOrder}
-use Rattle.wac_graph_scopes.specs.Parts.{imports_of}
+use Rattle.wac_types_parts.specs.Parts.{imports_of}
 use Rattle.wac_graph_scopes.proofs.ImportLaws.{all_named, ordered_names, others_new, world_begun}
 use Rattle.wac_graph_scopes.proofs.OrderLaws.{distinct-left, distinct-right}
 use Rattle.wac_graph_encode.proofs.root.write_outers.Goals as goal

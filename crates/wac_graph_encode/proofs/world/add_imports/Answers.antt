@@ -1,6 +1,6 @@
 use Rattle.std.proofs.Common.{arith}
 use Rattle.wac_types_base.proofs.Again.{all_copied}
-use Rattle.wac_graph_scopes.specs.Parts.{imports_of}
+use Rattle.wac_types_parts.specs.Parts.{imports_of}
 use Rattle.wac_graph_encode.proofs.Exported.{import_next}
 use Rattle.wac_graph_encode.proofs.world.add_imports.Goals as goal
 

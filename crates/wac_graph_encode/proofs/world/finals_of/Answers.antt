@@ -1,6 +1,6 @@
 use Rattle.std.proofs.Common.{List, subst}
 use Rattle.wac_types_base.specs.Collection.{IsAcyclic}
-use Rattle.wac_graph_scopes.specs.declared.imports.Called.{Called}
+use Rattle.wac_types_parts.specs.declared.called.Called.{Called}
 use Rattle.wac_graph_encode.specs.Worlds.{AreCalledTypes}
 use Rattle.wac_graph_encode.proofs.Finals.{finals_known}
 use Rattle.wac_graph_encode.proofs.world.finals_of.Goals as goal

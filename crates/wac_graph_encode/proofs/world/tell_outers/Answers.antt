@@ -4,7 +4,7 @@ use Rattle.wac_types_base.specs.declared.item.ItemKind.{ItemKind}
 use Rattle.wac_types_base.specs.Entries.{Name}
 use Rattle.wac_types_base.proofs.Looked.{take-one_more}
 use Rattle.wac_types_base.proofs.Loops.{get-place}
-use Rattle.wac_graph_scopes.specs.declared.imports.Called.{Called}
+use Rattle.wac_types_parts.specs.declared.called.Called.{Called}
 use Rattle.wac_graph_encode.specs.Worlds.{AreCalledTypes}
 use Rattle.wac_graph_encode.proofs.Told.{called_more, called_none}
 use Rattle.wac_graph_encode.proofs.world.tell_outers.Goals as goal

@@ -2,7 +2,7 @@ use Rattle.std.proofs.Common.{◌+◌, ◌++◌, ◌∷◌, [], take, sym, ap, s
 use Rattle.std.proofs.lemmas.List.{append-nil}
 use Rattle.wac_types_base.specs.Entries.{names_of, value_at}
 use Rattle.wac_graph_scopes.specs.Imports.{all_imports, own_places, FindsFirst}
-use Rattle.wac_graph_scopes.proofs.PartLaws.{name_at}
+use Rattle.wac_types_parts.proofs.PartLaws.{name_at}
 use Rattle.wac_graph_scopes.proofs.FoundLaws.{first_next, own_places_next}
 use Rattle.wac_graph_scopes.proofs.imports.add_places.Goals as goal
 use Rattle.wac_graph_scopes.proofs.imports.add_places.Goals.{in-Some+in_ok-add_place, in_default}

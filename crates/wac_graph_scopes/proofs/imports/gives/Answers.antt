@@ -2,7 +2,7 @@ use Rattle.std.proofs.Common.{subst}
 use Rattle.std.proofs.lemmas.Result.{IfOk-weaker}
 use Rattle.wac_types_base.specs.declared.ids.InterfaceId.{InterfaceId}
 use Rattle.wac_types_fit.specs.Trees.{tree_in}
-use Rattle.wac_graph_scopes.specs.Parts.{exports_of}
+use Rattle.wac_types_parts.specs.Parts.{exports_of}
 use Rattle.wac_graph_scopes.specs.Items.{IsTreeOf}
 use Rattle.wac_graph_scopes.specs.Imports.{all_imports}
 use Rattle.wac_graph_scopes.proofs.FoundLaws.{same_import}

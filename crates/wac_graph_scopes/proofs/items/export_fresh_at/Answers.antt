@@ -1,6 +1,6 @@
 use Rattle.std.proofs.Common.{[], refl}
 use Rattle.wac_types_fit.specs.Trees.{tree_in}
-use Rattle.wac_graph_scopes.specs.Parts.{exports_of}
+use Rattle.wac_types_parts.specs.Parts.{exports_of}
 use Rattle.wac_graph_scopes.proofs.WritingLaws.{writes_more, value_here}
 use Rattle.wac_types_base.proofs.Lists.{not_among}
 use Rattle.wac_graph_scopes.proofs.items.export_fresh_at.Goals as goal

@@ -1,7 +1,7 @@
 use Rattle.std.proofs.Common.{◌≡◌, sym, ap, ◌∙◌}
 use Rattle.wac_types_base.specs.Entries.{Name, has_name}
-use Rattle.wac_graph_scopes.specs.Parts.{exports_of}
-use Rattle.wac_graph_scopes.proofs.PartLaws.{name_at}
+use Rattle.wac_types_parts.specs.Parts.{exports_of}
+use Rattle.wac_types_parts.proofs.PartLaws.{name_at}
 use Rattle.wac_graph_scopes.proofs.WritingLaws.{past_names}
 use Rattle.wac_graph_scopes.proofs.items.other_at.Goals as goal
 

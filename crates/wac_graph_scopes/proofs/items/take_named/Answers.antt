@@ -1,5 +1,5 @@
 use Rattle.std.proofs.Common.{[], inl, subst}
-use Rattle.wac_graph_scopes.specs.Parts.{exports_of}
+use Rattle.wac_types_parts.specs.Parts.{exports_of}
 use Rattle.wac_graph_scopes.specs.Items.{MayExport}
 use Rattle.wac_graph_scopes.proofs.WritingLaws.{writes_on, writes_more, grows_by}
 use Rattle.wac_graph_scopes.proofs.items.take_named.Goals as goal

@@ -1,7 +1,7 @@
 use Rattle.std.proofs.Common.{subst}
 use Rattle.std.proofs.lemmas.Result.{IfOk-weaker}
 use Rattle.wac_types_fit.specs.Trees.{tree_in}
-use Rattle.wac_graph_scopes.specs.Parts.{exports_of}
+use Rattle.wac_types_parts.specs.Parts.{exports_of}
 use Rattle.wac_graph_scopes.specs.Items.{MayGive}
 use Rattle.wac_graph_scopes.proofs.WritingLaws.{may_follow}
 use Rattle.wac_graph_scopes.proofs.items.take_use.Goals as goal

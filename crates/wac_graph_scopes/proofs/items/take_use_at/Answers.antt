@@ -3,7 +3,7 @@ use Rattle.std.proofs.lemmas.Result.{IfOk-weaker}
 use Rattle.wac_types_base.specs.Graph.{Among}
 use Rattle.wac_types_base.specs.Entries.{Name, names_of}
 use Rattle.wac_types_base.proofs.Looked.{distinct-before}
-use Rattle.wac_graph_scopes.specs.Parts.{uses_of}
+use Rattle.wac_types_parts.specs.Parts.{uses_of}
 use Rattle.wac_graph_scopes.proofs.WritingLaws.{take_more, take_last}
 use Rattle.wac_graph_scopes.proofs.items.take_use_at.Goals as goal
 

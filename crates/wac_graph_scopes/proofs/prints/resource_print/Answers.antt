@@ -1,6 +1,6 @@
 use Rattle.std.proofs.Common.{sym, ap, ◌∙◌}
 use Rattle.wac_graph_scopes.specs.Prints.{text_print, resource_print}
-use Rattle.wac_graph_scopes.proofs.HandleLaws.{root_is}
+use Rattle.wac_types_parts.proofs.Resources.{root_is}
 use Rattle.wac_graph_scopes.proofs.prints.resource_print.Goals as goal
 
 pub returns : goal.returns

@@ -15,7 +15,8 @@ use Rattle.wac_graph_bytes.specs.Typing.{value_of}
 use Rattle.wac_graph_scopes.specs.Forms.{entry_of}
 use Rattle.wac_graph_scopes.specs.Scopes.{AnswersPlaces}
 use Rattle.wac_graph_scopes.proofs.ValueLaws.{value_of_tree, value_there, value_written, value_remembered, places_none, places_next, trees_next, trees_all}
-use Rattle.wac_graph_scopes.proofs.HandleLaws.{take_zero, place_none, place_some}
+use Rattle.wac_types_parts.proofs.Lists.{take_zero}
+use Rattle.wac_graph_scopes.proofs.HandleLaws.{place_none, place_some}
 use Rattle.wac_graph_scopes.proofs.PlaceLaws.{known_same_list, known_pushed}
 use Rattle.wac_graph_scopes.proofs.RefusedLaws.{if_err_map, alias_refused, place_refused, whole_refused, later_same_list}
 use Rattle.wac_graph_scopes.proofs.value.+values.Goals as goal

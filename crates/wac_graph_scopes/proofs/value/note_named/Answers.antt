@@ -21,5 +21,5 @@ returns-clause-remembers c w outer i h e =
 
 pub returns-clause-found : goal.returns-clause-found
 returns-clause-found c =
-    let k : KnownType = record { id = c.args.id; index = c.args.index; named = true } in
-    (k, subst (Among k) (sym c.in_ok-remember.ensures.all) (last_among _ k), refl)
+    let k : KnownType = record { ty = c.args.ty; index = c.args.index; named = true } in
+    (k, subst (Among k) (sym c.in_ok-remember.ensures.all) (last_among _ k), refl, refl)

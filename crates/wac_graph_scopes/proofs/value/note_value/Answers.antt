@@ -1,14 +1,7 @@
-use Rattle.std.proofs.Common.{◌≡◌, ◌∷◌, Some, refl, sym, ap, subst, ◌∙◌}
+use Rattle.std.proofs.Common.{◌∷◌, Some, refl, sym, ap, ◌∙◌}
 use Rattle.indexmap.proofs.MapLemmas.{OnOk-map}
-use Rattle.wac_types_base.specs.declared.ids.DefinedTypeId.{DefinedTypeId}
 use Rattle.wac_types_base.specs.declared.item.ItemKind.{ItemKind}
-use Rattle.wac_types_base.specs.Collection.{Stands}
-use Rattle.wac_types_base.specs.Tree.{tree_of}
-use Rattle.wac_types_fit.specs.Trees.{tree_in}
-use Rattle.wac_graph_bytes.specs.declared.value.ValueType.TheVariants.{Index}
-use Rattle.wac_graph_bytes.specs.Typing.{value_of}
 use Rattle.wac_types_fit.proofs.Unfolded.{same_tree, end_no_alias}
-use Rattle.wac_graph_scopes.specs.Known.{HasId}
 use Rattle.wac_graph_scopes.proofs.UsedLaws.{item_value}
 use Rattle.wac_graph_scopes.proofs.value.note_value.Goals as goal
 
@@ -18,14 +11,12 @@ returns-clause-notes c w outer i h e =
     let a = c.see_acyclic.ensures in
     let r = c.resolve_value_type.ensures in
     let last = c.resolve_value_type.result in
-    let stands = subst (λ v. Stands types (ItemKind.Value v)) (sym c.in-Defined.is) (c.if-not-has.ensures.0 refl) in
-    let same = same_tree types a (ItemKind.Value last) (ItemKind.Value c.args.ty) r.stands stands (r.tree ∙ ap (λ v. tree_of types (ItemKind.Value v)) (sym c.in-Defined.is)) in
+    let stands = c.if-not-has.ensures.0 refl in
+    let same = same_tree types a (ItemKind.Value last) (ItemKind.Value c.args.ty) r.stands stands r.tree in
     let value = item_value w types a (i.here ∷ outer) last c.args.ty c.args.index r.stands (end_no_alias types a r.resolved) same e in
-    let own = subst (λ v. value_of w (i.here ∷ outer) (Index c.args.index) ≡ Some (tree_in types (ItemKind.Value v))) c.in-Defined.is value in
-    c.note_end.ensures.remembers types w outer i (c.in_ok-note_own.ensures.remembers w outer i h own) (value ∙ ap Some (sym same))
+    c.note_end.ensures.remembers types w outer i (c.in_ok-note_own.ensures.remembers w outer i h value) (value ∙ ap Some (sym same))
 
 pub returns-clause-own : goal.returns-clause-own
-returns-clause-own c d e stands =
-    let same : c.in-Defined.id ≡ d = cc (e, c.in-Defined.is) in
+returns-clause-own c stands =
     let known = c.in_ok-note_own.ensures.found in
-    OnOk-map c.note_end.result _ _ (λ keeps. subst (λ (x : DefinedTypeId). HasId c.note_end.new.scope.known.all.items x) same (known.0, keeps known.0 known.1, known.2)) c.note_end.ensures.keeps
+    OnOk-map c.note_end.result _ _ (λ keeps. (known.0, keeps known.0 known.1, known.2, known.3)) c.note_end.ensures.keeps

@@ -1,5 +1,5 @@
 use Rattle.std.proofs.Common.{◌∷◌, refl}
-use Rattle.wac_graph_scopes.specs.Parts.{exports_of}
+use Rattle.wac_types_parts.specs.Parts.{exports_of}
 use Rattle.wac_graph_scopes.proofs.WritingLaws.{value_here}
 use Rattle.wac_graph_scopes.proofs.ImportLaws.{instance_source}
 use Rattle.wac_graph_scopes.proofs.worlds.alias_type_at.Goals as goal

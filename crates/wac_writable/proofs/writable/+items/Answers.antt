@@ -6,13 +6,13 @@ use Rattle.wac_types_base.specs.declared.item.ItemKind.{ItemKind}
 use Rattle.wac_types_base.specs.Collection.{size_of}
 use Rattle.wac_types_base.specs.Stated.{stated_of, uses_of, imports_of, exports_of, stated_world}
 use Rattle.wac_composition.specs.NotWritten.{component_holder, unnamed_use}
-use Rattle.wac_graph_scopes.specs.Parts.{exports_of as exports_in, uses_of as uses_in, world_uses_of as world_uses_in, imports_of as imports_in, world_exports_of as world_exports_in}
+use Rattle.wac_types_parts.specs.Parts.{exports_of as exports_in, uses_of as uses_in, world_uses_of as world_uses_in, imports_of as imports_in, world_exports_of as world_exports_in}
 use Rattle.wac_writable.specs.Holders.{Keeps}
 use Rattle.wac_writable.specs.Items.{item_unwritable}
 use Rattle.wac_writable.specs.Tests.{used_of, ungiven_unwritable, tested_unwritable, exports_unwritable, some_ungiven, some_unwritable}
 use Rattle.wac_writable.specs.Uses.{AddedFails, NeededBy, FailsAt, SomeUse, SomeItem}
 use Rattle.wac_writable.specs.Givers.{instance_of, givers_by, NeedsFailing, WorldNeeds}
-use Rattle.wac_writable.proofs.PartsStated.{uses_are, exports_are, identifier_is, world_uses_are, imports_are, world_exports_are}
+use Rattle.wac_types_parts.proofs.PartsStated.{uses_are, exports_are, identifier_is, world_uses_are, imports_are, world_exports_are}
 use Rattle.wac_writable.proofs.UnnamedLaws.{no_gap}
 use Rattle.wac_writable.proofs.HolderLaws.{filled_holds}
 use Rattle.wac_writable.proofs.ItemLaws.{if_ok_all}

@@ -3,7 +3,7 @@ use Rattle.std.specs.List.{list_any}
 use Rattle.wac_types_base.specs.declared.item.ItemKind.{ItemKind}
 use Rattle.wac_types_base.specs.Collection.{size_of}
 use Rattle.wac_composition.specs.Writable.{Holder as Held}
-use Rattle.wac_graph_scopes.specs.Parts.{exports_of as exports_in, uses_of as uses_in, world_uses_of as world_uses_in, imports_of as imports_in, world_exports_of as world_exports_in}
+use Rattle.wac_types_parts.specs.Parts.{exports_of as exports_in, uses_of as uses_in, world_uses_of as world_uses_in, imports_of as imports_in, world_exports_of as world_exports_in}
 use Rattle.wac_writable.specs.Unnamed.{KnowsAll}
 use Rattle.wac_writable.specs.Holders.{Holds, Keeps}
 use Rattle.wac_writable.specs.Tests.{exports_unwritable, tested_unwritable, some_ungiven, some_unwritable}

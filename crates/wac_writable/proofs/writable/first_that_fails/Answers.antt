@@ -1,7 +1,7 @@
 use Rattle.std.proofs.Common.{inl, refl, sym, ap, ◌∙◌, subst, arith}
 use Rattle.std.specs.List.{list_any}
 use Rattle.wac_types_base.proofs.Loops.{take-all}
-use Rattle.wac_graph_scopes.specs.Parts.{imports_of as imports_in}
+use Rattle.wac_types_parts.specs.Parts.{imports_of as imports_in}
 use Rattle.wac_writable.specs.Holders.{Keeps}
 use Rattle.wac_writable.specs.Tests.{import_unwritable}
 use Rattle.wac_writable.proofs.UnnamedLaws.{no_gap}

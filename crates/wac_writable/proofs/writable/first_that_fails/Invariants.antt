@@ -1,7 +1,7 @@
 use Rattle.std.proofs.Common.{◌≡◌, take, false}
 use Rattle.std.specs.List.{list_any}
 use Rattle.wac_composition.specs.Writable.{Holder as Held}
-use Rattle.wac_graph_scopes.specs.Parts.{imports_of as imports_in}
+use Rattle.wac_types_parts.specs.Parts.{imports_of as imports_in}
 use Rattle.wac_writable.specs.Unnamed.{KnowsAll}
 use Rattle.wac_writable.specs.Holders.{Holds, Keeps}
 use Rattle.wac_writable.specs.Tests.{import_unwritable}

@@ -1,6 +1,6 @@
 use Rattle.std.proofs.Common.{◌≡◌, Some, sym, subst}
 use Rattle.wac_types_base.specs.Entries.{value_at}
-use Rattle.wac_graph_scopes.specs.Parts.{imports_of, world_exports_of}
+use Rattle.wac_types_parts.specs.Parts.{imports_of, world_exports_of}
 use Rattle.wac_writable.specs.declared.writable.GivenBy.{GivenBy}
 use Rattle.wac_writable.specs.Givers.{items_by}
 use Rattle.wac_writable.proofs.GivenLaws.{value_first, value_second}

@@ -5,7 +5,7 @@ use Rattle.wac_graph_bytes.specs.declared.value.Sort.TheVariants as sort
 use Rattle.wac_graph_bytes.specs.Typing.{◌>>=◌, item_of}
 use Rattle.std.specs.Prelude.{IfSome}
 use Rattle.wac_graph_scopes.specs.declared.imports.TakenUse.{TakenUse}
-use Rattle.wac_graph_scopes.specs.Parts.{IsUsedKind}
+use Rattle.wac_types_parts.specs.Parts.{IsUsedKind}
 use Rattle.wac_graph_scopes.specs.Imports.{HasAlias, IsGivenBy}
 use Rattle.wac_graph_scopes.proofs.UsedLaws.{sorted_used}
 use Rattle.wac_graph_scopes.proofs.imports.ImportScope.describe_used.Goals as goal

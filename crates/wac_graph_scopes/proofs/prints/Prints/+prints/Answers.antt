@@ -10,7 +10,7 @@ use Rattle.wac_types_fit.proofs.Unfolded.{same_tree, end_no_alias, end_smaller, 
 use Rattle.wac_types_fit.proofs.ValueTrees.{place_size, place_inside, defined_holds}
 use Rattle.wac_graph_scopes.specs.Prints.{joined, tree_print, place_print, places_print}
 use Rattle.wac_graph_scopes.proofs.ValueLaws.{trees_all}
-use Rattle.wac_graph_scopes.proofs.HandleLaws.{take_zero}
+use Rattle.wac_types_parts.proofs.Lists.{take_zero}
 use Rattle.wac_graph_scopes.proofs.PrintLaws.{printed_next, defined_printed, err_gives}
 use Rattle.wac_graph_scopes.proofs.prints.Prints.+prints.Goals as goal
 

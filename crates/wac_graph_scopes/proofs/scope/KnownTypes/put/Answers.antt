@@ -1,4 +1,5 @@
 use Rattle.std.proofs.Common.{refl, false, ◌∙◌}
+use Rattle.wac_types_base.specs.declared.item.ValueType.{ValueType}
 use Rattle.wac_graph_scopes.specs.declared.scope.KnownType.{KnownType}
 use Rattle.wac_graph_scopes.specs.declared.scope.KnownTypes.{KnownTypes}
 use Rattle.wac_graph_scopes.proofs.PlaceLaws.{places_remembered}
@@ -8,7 +9,7 @@ use Rattle.wac_graph_scopes.proofs.scope.KnownTypes.put.Goals as goal
 pub returns : goal.returns
 returns c w ss types h e =
     let s = c.args.self.now in
-    let k : KnownType = record { id = c.args.id; index = c.args.index; named = false } in
+    let k : KnownType = record { ty = ValueType.Defined c.args.id; index = c.args.index; named = false } in
     let ks : KnownTypes = record s { all = c.push.new.self; places = record s.places { by_id = c.insert.new.self } } in
     known_put w types ss s ks k h (record { reads = e }) c.in_ok-push.ensures.items
     (places_remembered types s ks k c.len-at.result (c.len-at.ensures ∙ s.all.ok.0) c.in_ok-insert.ensures.updates.0 c.in_ok-push.ensures.items refl refl (λ n. absurd (cc n)) h.places) refl

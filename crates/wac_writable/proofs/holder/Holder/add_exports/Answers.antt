@@ -1,6 +1,6 @@
 use Rattle.std.proofs.Common.{◌∙◌, arith}
-use Rattle.wac_graph_scopes.specs.Parts.{exports_of as exports_in}
-use Rattle.wac_writable.proofs.PartsStated.{exports_are}
+use Rattle.wac_types_parts.specs.Parts.{exports_of as exports_in}
+use Rattle.wac_types_parts.proofs.PartsStated.{exports_are}
 use Rattle.wac_writable.proofs.UnnamedLaws.{no_gap}
 use Rattle.wac_writable.proofs.HolderLaws.{adds_first, adds_at, adds_all}
 use Rattle.wac_writable.proofs.holder.Holder.add_exports.Goals.{in-Some+in_ok-add_fresh, in_default}

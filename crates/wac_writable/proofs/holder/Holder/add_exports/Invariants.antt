@@ -1,7 +1,7 @@
 use Rattle.std.proofs.Common.{take}
 use Rattle.wac_types_base.specs.Entries.{with_values}
 use Rattle.wac_types_base.specs.Stated.{stated_of}
-use Rattle.wac_graph_scopes.specs.Parts.{exports_of as exports_in}
+use Rattle.wac_types_parts.specs.Parts.{exports_of as exports_in}
 use Rattle.wac_writable.specs.Holders.{AddsRoots}
 use Rattle.wac_writable.proofs.holder.Holder.add_exports.Given as goal
 

@@ -1,7 +1,7 @@
 use Rattle.std.proofs.Common.{take}
 use Rattle.wac_types_base.specs.Entries.{with_values}
 use Rattle.wac_types_base.specs.Stated.{stated_of}
-use Rattle.wac_graph_scopes.specs.Parts.{imports_of as imports_in}
+use Rattle.wac_types_parts.specs.Parts.{imports_of as imports_in}
 use Rattle.wac_writable.specs.Holders.{AddsRoots}
 use Rattle.wac_writable.proofs.holder.Holder.add_imports.Given as goal
 

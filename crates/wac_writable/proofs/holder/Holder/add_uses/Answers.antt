@@ -1,6 +1,6 @@
 use Rattle.std.proofs.Common.{◌∙◌, arith}
-use Rattle.wac_graph_scopes.specs.Parts.{uses_of as uses_in}
-use Rattle.wac_writable.proofs.PartsStated.{uses_are}
+use Rattle.wac_types_parts.specs.Parts.{uses_of as uses_in}
+use Rattle.wac_types_parts.proofs.PartsStated.{uses_are}
 use Rattle.wac_writable.proofs.UnnamedLaws.{no_gap}
 use Rattle.wac_writable.proofs.HolderLaws.{filled_first, filled_at, filled_all}
 use Rattle.wac_writable.proofs.holder.Holder.add_uses.Goals.{in-Some+in_ok-add_use, in_default}

@@ -1,6 +1,6 @@
 use Rattle.std.proofs.Common.{◌∙◌, arith}
-use Rattle.wac_graph_scopes.specs.Parts.{world_exports_of as world_exports_in}
-use Rattle.wac_writable.proofs.PartsStated.{world_exports_are}
+use Rattle.wac_types_parts.specs.Parts.{world_exports_of as world_exports_in}
+use Rattle.wac_types_parts.proofs.PartsStated.{world_exports_are}
 use Rattle.wac_writable.proofs.UnnamedLaws.{no_gap}
 use Rattle.wac_writable.proofs.HolderLaws.{adds_first, adds_at, adds_all}
 use Rattle.wac_writable.proofs.holder.Holder.add_world_exports.Goals.{in-Some+in_ok-add_fresh, in_default}

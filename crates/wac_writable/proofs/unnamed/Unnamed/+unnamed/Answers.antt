@@ -1,5 +1,5 @@
 use Rattle.std.proofs.Common.{◌||◌, sym, ap, ◌∙◌, subst}
-use Rattle.wac_graph_scopes.specs.Parts.{uses_of as uses_in}
+use Rattle.wac_types_parts.specs.Parts.{uses_of as uses_in}
 use Rattle.wac_writable.specs.Unnamed.{Learns, found_of, uses_unnamed}
 use Rattle.wac_writable.proofs.UnnamedLaws.{lacks_identifier, used_by, learns_nothing, learns_more, learns_one, by_rest, use_settles, use_leaves, no_gap}
 use Rattle.wac_writable.proofs.unnamed.Unnamed.+unnamed.Goals.{is_used_directly-in-Some+in_ok-is_unnamed+else-branch, is_used_directly-in_default}

@@ -2,7 +2,7 @@ use Rattle.std.proofs.Common.{◌≡◌, ◌+◌, ◌*◌, drop}
 use Rattle.std.specs.List.{list_any}
 use Rattle.wac_types_base.specs.declared.item.ItemKind.{ItemKind}
 use Rattle.wac_types_base.specs.Collection.{size_of}
-use Rattle.wac_graph_scopes.specs.Parts.{uses_of as uses_in}
+use Rattle.wac_types_parts.specs.Parts.{uses_of as uses_in}
 use Rattle.wac_writable.specs.Unnamed.{Learns, uses_unnamed}
 use Rattle.wac_writable.proofs.UnnamedLaws.{unnamed_use}
 use Rattle.wac_writable.proofs.unnamed.Unnamed.+unnamed.Given as goal

@@ -1,5 +1,5 @@
 use Rattle.std.proofs.Common.{sym, ◌∙◌}
-use Rattle.wac_graph_scopes.specs.Parts.{world_uses_of as world_uses_in}
+use Rattle.wac_types_parts.specs.Parts.{world_uses_of as world_uses_in}
 use Rattle.wac_writable.specs.Unnamed.{world_uses_unnamed}
 use Rattle.wac_writable.proofs.UnnamedLaws.{used_by_world, use_settles, use_leaves, no_gap}
 use Rattle.wac_writable.proofs.unnamed.Unnamed.is_found_of_world.Goals.{in-Some+else-is_found_unnamed, in_default}

@@ -1,6 +1,6 @@
 use Rattle.std.proofs.Common.{◌≡◌, drop}
 use Rattle.std.specs.List.{list_any}
-use Rattle.wac_graph_scopes.specs.Parts.{world_uses_of as world_uses_in}
+use Rattle.wac_types_parts.specs.Parts.{world_uses_of as world_uses_in}
 use Rattle.wac_writable.specs.Unnamed.{KnowsAll, world_uses_unnamed}
 use Rattle.wac_writable.proofs.UnnamedLaws.{unnamed_use}
 use Rattle.wac_writable.proofs.unnamed.Unnamed.is_found_of_world.Given as goal

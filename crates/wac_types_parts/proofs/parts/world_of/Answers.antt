@@ -1,0 +1,9 @@
+use Rattle.std.proofs.Common.{refl, sym, ap, subst, ◌∙◌}
+use Rattle.wac_types_base.specs.Collection.{Stands, size_of}
+use Rattle.wac_types_fit.proofs.Checks.{world_type_size}
+use Rattle.wac_types_parts.proofs.parts.world_of.Goals as goal
+
+pub returns-in-World-clause-size : goal.returns-in-World-clause-size
+returns-in-World-clause-size c =
+    let types = c.args.types.now in
+    sym (ap (size_of types) c.in-Ty.is ∙ world_type_size types c.see_acyclic.ensures c.in-Ty.ty c.in-World.id c.in-World.is (subst (Stands types) c.in-Ty.is (c.if-not-has.ensures.0 refl)))

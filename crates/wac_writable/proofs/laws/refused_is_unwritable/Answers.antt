@@ -1,5 +1,0 @@
-use Rattle.wac_writable.proofs.StockLaws.{refused_unwritable}
-use Rattle.wac_writable.proofs.laws.refused_is_unwritable.Goals as goal
-
-pub returns : goal.returns
-returns c = refused_unwritable
