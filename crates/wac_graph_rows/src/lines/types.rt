@@ -3,7 +3,7 @@
 //! `option NAME V`, `pair NAME V V` (a tuple),
 //! `resource NAME TEXT of RESOURCE in INTERFACE`, `interface NAME as TEXT uses R=I .. exports E=ITEM ..`,
 //! `world NAME as TEXT uses R=I .. imports I=ITEM .. exports E=ITEM ..`, `value NAME V` (the item of a value),
-//! `typed NAME ITEM` (the type of an interface, a world or a function), `module NAME HEAP` and
+//! `typed NAME ITEM` (the type of an interface, a world, a function or a value), `module NAME HEAP` and
 //! `memories NAME imports M::N=PAGES exports N=PAGES ..` (the type of a module of memories).
 //!
 //! Of a line that is read here the first two words are taken.

@@ -38,14 +38,15 @@ pub fn take_item(items: &NamedMap<ItemKind>, words: &mut Words<'_>) -> ItemKind 
     item_named(items, words, name)
 }
 
-/// The type that the item of a name is, or that it is of.
+/// The type that the item of a name is, or that it is of; of a value, its type.
 pub fn type_named(items: &NamedMap<ItemKind>, words: &mut Words<'_>, name: &str) -> Type {
     match item_named(items, words, name) {
         ItemKind::Ty(ty) => ty,
         ItemKind::Func(id) => Type::Func(id),
         ItemKind::Instance(id) => Type::Interface(id),
         ItemKind::Component(id) => Type::World(id),
-        _ => {
+        ItemKind::Value(ty) => Type::Value(ty),
+        ItemKind::Module(_) => {
             words.refuse("no type");
             Type::Value(NOTHING)
         }
