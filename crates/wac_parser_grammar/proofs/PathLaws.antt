@@ -1,11 +1,15 @@
 -- The names and paths of packages that are read stand in the source.
-use Rattle.std.proofs.Common.{◌≡◌, ℕ, List, [], ◌∷◌, Ok, refl, ap, sym, subst, ◌∙◌}
+use Rattle.std.proofs.Common.{◌≡◌, ℕ, inl, inr, List, [], ◌∷◌, ◌++◌, Option, Result, Ok, Err, refl, ap, sym, subst, ◌∙◌}
 use Rattle.std.specs.List.{All}
 use Rattle.std.proofs.lemmas.List.Elements.{All-head, All-tail}
+use Rattle.semver.specs.Parse.{version_parts}
+use Rattle.semver.specs.declared.error.Error.{Error}
+use Rattle.semver.proofs.Grammar.{version_parts-sound}
 use Rattle.wac_parser_lexer.specs.declared.span.SourceSpan.{SourceSpan}
 use Rattle.wac_parser_lexer.specs.declared.token.Token.{Token}
 use Rattle.wac_parser_lexer.specs.declared.token.Token.TheVariants as k
 use Rattle.wac_parser_lexer.specs.Tokens.{IsToken}
+use Rattle.wac_parser_lexer.specs.Words.{IsPackageName}
 use Rattle.wac_parser_lexer.specs.Pieces.{IsSpanIn, text_at}
 use Rattle.wac_parser_lexer.specs.Items.{Item, Input, input_of, rest_of_items, rest_input}
 use Rattle.wac_parser_lexer.proofs.SpanLaws.{IsItemIn, all_in, token_text, name_text, path_text}
@@ -13,8 +17,8 @@ use Rattle.wac_parser_tree.specs.Trees as t
 use Rattle.wac_parser_tree.specs.Segments.{IsPathIn}
 use Rattle.wac_parser_grammar.specs.Places.{IsBehind, here, on}
 use Rattle.wac_parser_grammar.specs.Rules.{token}
-use Rattle.wac_parser_grammar.specs.Names.{package_name, package_path}
-use Rattle.wac_parser_grammar.specs.Paths.{IsText, IsNameIn}
+use Rattle.wac_parser_grammar.specs.Names.{before, version_read, version_by, version_of, package_name, package_path}
+use Rattle.wac_parser_grammar.specs.Paths.{versioned, IsText, IsNameIn}
 use Rattle.wac_parser_grammar.proofs.PathTexts.{name_parts, path_parts}
 
 -- the items of the place lie in the source
@@ -32,6 +36,27 @@ place_behind source m s (on h) p = place_behind source m (rest_input s) h (recor
 
 pub place_in : (source : List ℕ) → IsText source → (s : Input) → IsBehind s (input_of source) → IsPlaceIn source s
 place_in source text s behind = place_behind source s (input_of source) behind (record { same = refl; items = all_in source text.0 text.1 })
+
+-- ---- the version that is read is written as its text has it
+
+version_text : (text more : List ℕ) → text ≡ before 64 text ++ 64 ∷ more → (q : Result t.Version Error) → version_parts more ≡ q → (span : SourceSpan) (v : Option t.Version) (s m : Input)
+    → (version_read q more span).Is v s m → text ≡ versioned (before 64 text) v
+version_text text more is (Ok p) e span v s m h =
+    let P : Option t.Version → Type 0 = λ o. text ≡ versioned (before 64 text) o in
+    subst P (sym h.0) (is ∙ ap (λ w. before 64 text ++ 64 ∷ w) (sym (version_parts-sound more p e).0))
+version_text text more is (Err f) e span v s m h = absurd h
+
+name_versioned : (text : List ℕ) → IsPackageName text → (span : SourceSpan) (v : Option t.Version) (s m : Input) → (version_of text span).Is v s m → text ≡ versioned (before 64 text) v
+unfolding version_of
+name_versioned text form span v s m h = elim (name_parts text form) [
+  | inl w ↦
+      (let P : Option (List ℕ) → Type 0 = λ o. (version_by o span).Is v s m in
+      let Q : Option t.Version → Type 0 = λ o. text ≡ versioned (before 64 text) o in
+      subst Q (sym (subst P w.1 h).0) w.0)
+  | inr w ↦
+      (let P : Option (List ℕ) → Type 0 = λ o. (version_by o span).Is v s m in
+      version_text text w.0 w.1 (version_parts w.0) refl span v s m (subst P w.2 h))
+]
 
 module _ (source : List ℕ) (s : Input) (place : IsPlaceIn source s) where
   -- a token that is read stands at its span
@@ -51,9 +76,10 @@ module _ (source : List ℕ) (s : Input) (place : IsPlaceIn source s) where
       let at = token_in k.PackageName h.0 h.1 h.2 in
       let text : text_at source h.0 ≡ h.3.0 = text_here k.PackageName h.0 h.1 h.2 ∙ sym h.3.2.0 in
       let P : List ℕ → Type 0 = IsToken k.PackageName in
-      let parts = name_parts h.3.0 (name_text k.PackageName h.3.0 refl (subst P text at.1)) in
+      let form = name_text k.PackageName h.3.0 refl (subst P text at.1) in
+      let parts = name_versioned h.3.0 form h.0 h.3.3.0 h.3.1 h.3.3.1 h.3.3.2 in
       let Q : t.PackageName → Type 0 = IsNameIn source in
-      subst Q (sym h.3.3.3.0) (record { within = at.0; text = text; parts = parts })
+      subst Q (sym h.3.3.3.0) (record { within = at.0; text = text; form = form; parts = parts })
 
   pub path_stands : (x : t.PackagePath) (r : Input) → package_path.Is x s r → IsPathIn source x
   unfolding package_path

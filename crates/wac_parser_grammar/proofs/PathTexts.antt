@@ -1,5 +1,5 @@
 -- The name and the segments of the text of a package path, and the name of that of a package name.
-use Rattle.std.proofs.Common.{◌≡◌, ◌≢◌, ℕ, ◌+◌, ◌<◌, ◌⊎◌, inl, inr, true, false, eqb, ltb, List, [], ◌∷◌, ◌++◌, length, take, drop, get_or, Some, unwrap_or, refl, ap, sym, ◌∙◌, arith, eq-eqb, append_assoc, length-append}
+use Rattle.std.proofs.Common.{◌≡◌, ℕ, ◌+◌, ◌<◌, ◌⊎◌, inl, inr, true, false, eqb, ltb, List, [], ◌∷◌, ◌++◌, length, take, drop, get_or, Some, None, unwrap_or, refl, ap, sym, ◌∙◌, arith, eq-eqb, append_assoc, length-append}
 use Rattle.std.proofs.lemmas.Bool.Decides.{nat_tests}
 use Rattle.std.proofs.lemmas.List.{append-nil, get_or_append_left}
 use Rattle.std.proofs.lemmas.List.Sums.{position_or_len_is}
@@ -18,6 +18,11 @@ under a b h = grind (arith, nat_tests)
 module _ (x : ℕ) (a : List ℕ) (lacks : Lacks x a) where
   place_none : position_or_len (λ c. eqb c x) a ≡ length a
   place_none = position_or_len_is (λ c. eqb c x) a (length a) 0 (omega arith) (λ j l. apart (get_or a j 0) x (lacks j l)) (λ l. absurd (omega (arith, l)))
+
+  pub nothing_behind : behind_first x a ≡ None
+  nothing_behind =
+      let here : ltb (length a) (length a) ≡ false = grind (arith, nat_tests) in
+      rw (place_none, here) refl
 
   pub before_none : before x a ≡ a
   before_none = ap (λ n. take n a) place_none ∙ ap (take (length a)) (sym (append-nil a)) ∙ take-append_seam a []
@@ -47,11 +52,13 @@ names_lack_slash : (w : List ℕ) → IsNames w → Lacks 47 w
 names_lack_slash = names_lacks 47 ident_lacks_slash (λ e. omega arith)
 
 -- the name of a package name is all of it, or stands before an `@`
-pub name_parts : (text : List ℕ) → IsPackageName text → (text ≡ before 64 text) ⊎ ((more : List ℕ) × (text ≡ before 64 text ++ 64 ∷ more))
-name_parts text (inl h) = inl (sym (before_none 64 text (names_lack_at text h)))
+pub name_parts : (text : List ℕ) → IsPackageName text
+    → ((text ≡ before 64 text) × (behind_first 64 text ≡ None)) ⊎ ((more : List ℕ) × (text ≡ before 64 text ++ 64 ∷ more) × (behind_first 64 text ≡ Some more))
+name_parts text (inl h) = let lacks = names_lack_at text h in inl (sym (before_none 64 text lacks), nothing_behind 64 text lacks)
 name_parts text (inr h) =
-    let name : before 64 text ≡ h.0 = ap (before 64) h.4 ∙ before_joint 64 h.0 (names_lack_at h.0 h.2) h.1 in
-    inr (h.1, h.4 ∙ ap (λ w. w ++ 64 ∷ h.1) (sym name))
+    let lacks = names_lack_at h.0 h.2 in
+    let name : before 64 text ≡ h.0 = ap (before 64) h.4 ∙ before_joint 64 h.0 lacks h.1 in
+    inr (h.1, h.4 ∙ ap (λ w. w ++ 64 ∷ h.1) (sym name), ap (behind_first 64) h.4 ∙ behind_joint 64 h.0 lacks h.1)
 
 -- what stands before the version of a path, and the version
 front : (text : List ℕ) → IsPackagePath text → (path : List ℕ) × (more : List ℕ) × IsPath path × (before 64 text ≡ path) × (text ≡ path ++ more)

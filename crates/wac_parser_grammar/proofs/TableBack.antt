@@ -142,7 +142,7 @@ package_path_back s x r h = (
 
 -- ---- types
 
-pub untys : t.Tys → List t.Ty
+unfoldable pub untys : t.Tys → List t.Ty
 untys t.Tys.no_more = []
 untys (t.Tys.more ty tys) = ty ∷ untys tys
 

@@ -1,6 +1,8 @@
 -- That the names and paths of packages that are read stand in the source.
-use Rattle.std.specs.Prelude.{◌≡◌, ◌⊎◌, ℕ, ◌<◌, ◌^◌, List, ◌∷◌, ◌++◌, length, Ok}
+use Rattle.std.specs.Prelude.{◌≡◌, ℕ, ◌<◌, ◌^◌, List, ◌∷◌, ◌++◌, length, Option, Some, None, Ok}
 use Rattle.std.specs.Str.{IsUtf8}
+use Rattle.semver.specs.Identifiers.{parts_text}
+use Rattle.wac_parser_lexer.specs.Words.{IsPackageName}
 use Rattle.wac_parser_lexer.specs.Pieces.{IsSpanIn, text_at}
 use Rattle.wac_parser_lexer.specs.Items.{Input, input_of}
 use Rattle.wac_parser_tree.specs.Trees as t
@@ -16,11 +18,18 @@ use Rattle.wac_parser_grammar.specs.PathsOfTrees.{EachInDocument}
 abbrev pub IsText : List ℕ → Type 0
 IsText source = IsUtf8 source × (length source < 2 ^ 64)
 
--- The name is the text of a source at its span: the name without a version, alone or with an `@` and more behind it.
+-- a name alone, or with an `@` and the text of a version behind it
+abbrev pub versioned : List ℕ → Option t.Version → List ℕ
+versioned name None = name
+versioned name (Some version) = name ++ 64 ∷ parts_text version
+
+-- The name is the text of a source at its span, a package name of the language: the name without a version, alone or with the
+-- version behind it.
 pub record IsNameIn (source : List ℕ) (name : t.PackageName) : Type 0 where
   pub within : IsSpanIn source name.span
   pub text : text_at source name.span ≡ name.string
-  pub parts : (name.string ≡ name.name) ⊎ ((more : List ℕ) × (name.string ≡ name.name ++ 64 ∷ more))
+  pub form : IsPackageName name.string
+  pub parts : name.string ≡ versioned name.name name.version
 
 -- what the rule reads at a place of a text stands in that text
 abbrev pub ReadsWhatStands : {X : Type 0} → Rule X → (List ℕ → X → Type 0) → Type 0

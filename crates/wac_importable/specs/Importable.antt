@@ -1,0 +1,28 @@
+-- That the packages which a source instantiates can be imported.
+use Rattle.std.specs.Prelude.{◌≡◌, ℕ, List, Option, Ok}
+use Rattle.wac_names.specs.ComponentNames.{IsDependency}
+use Rattle.wac_types_base.specs.Graph.{Among}
+use Rattle.wac_types_base.specs.Stated.{Stated}
+use Rattle.wac_types_names.specs.Keys.{Key}
+use Rattle.wac_composition.specs.Conflicts.{dependency_name}
+use Rattle.wac_parser_tree.specs.Trees as t
+use Rattle.wac_parser_grammar.specs.Documents.{document}
+use Rattle.wac_parser_grammar.specs.Reads.{read_source}
+use Rattle.wac_parser_grammar.specs.Paths.{IsText, IsNameIn}
+use Rattle.wac_parser_declare.specs.Packages.{Content}
+use Rattle.wac_parser_resolve.specs.Ascribing.{Made, State}
+use Rattle.wac_parser_resolve.specs.Meeting.{resolved}
+
+-- what a package of this key is imported as is the name of a dependency
+abbrev pub IsImportable : Key → Type 0
+IsImportable k = IsDependency (dependency_name k)
+
+-- so it is of each package name that stands in a text
+abbrev pub NamesAreImportable : Type 0
+NamesAreImportable = (source : List ℕ) (name : t.PackageName) → IsNameIn source name → IsImportable (name.name, name.version)
+
+-- and of each package that a document instantiates which is read of a text
+abbrev pub InstancesAreImportable : Type 0
+InstancesAreImportable = (source : List ℕ) → IsText source → (d : t.Document) → read_source document source ≡ Ok d
+    → (ps : List (Key × Content)) (r : State × Option Stated) → resolved d ps ≡ Ok r
+    → (m : Made) → Among m r.0.made → IsImportable m.key

@@ -1,0 +1,19 @@
+//! The packages that a source text instantiates can be imported: their keys make names of dependencies. Laws alone: each
+//! is the contract of a function without a body.
+#![tactic(auto)]
+
+ghost use Rattle.wac_importable.specs.Importable.{NamesAreImportable, InstancesAreImportable};
+
+use wac_parser_grammar::parsed_paths_stand;
+
+/// Each package name that stands in a text, as do all those of a document that is read of it, makes the name of a dependency.
+pub fn names_are_importable()
+    ensures { NamesAreImportable }
+{}
+
+/// So does the key of each package that such a document instantiates, whatever packages are handed in.
+pub fn instances_are_importable()
+    ensures { InstancesAreImportable }
+{
+    parsed_paths_stand();
+}
