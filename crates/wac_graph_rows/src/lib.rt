@@ -8,4 +8,5 @@ mod types;
 
 pub use encoded::EncodeRows;
 pub use graphs::GraphRows;
+pub use lines::register;
 pub use types::TypeRows;
