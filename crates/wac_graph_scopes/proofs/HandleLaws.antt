@@ -1,6 +1,5 @@
 -- Handles of resources.
-use Rattle.std.proofs.Common.{◌≡◌, ℕ, List, [], ◌∷◌, take, Option, Some, None, refl, sym, ap, ◌∙◌, subst}
-use Rattle.std.specs.Prelude.{slice_get}
+use Rattle.std.proofs.Common.{◌≡◌, ℕ, List, ◌∷◌, Option, Some, None, sym, ap, ◌∙◌, subst}
 use Rattle.wac_types_base.specs.declared.ids.ResourceId.{ResourceId}
 use Rattle.wac_types_base.specs.declared.item.ValueType.{ValueType}
 use Rattle.wac_types_base.specs.declared.item.«Type».{«Type» as TypeKind}
@@ -9,11 +8,10 @@ use Rattle.wac_types_base.specs.declared.defined.Resource.{Resource}
 use Rattle.wac_types_base.specs.Record.{Collection}
 use Rattle.wac_types_base.specs.Entries.{Name}
 use Rattle.wac_types_base.specs.Collection.{Stands, IsAcyclic, resource}
-use Rattle.wac_types_base.specs.Resolving.{IsRootOf}
-use Rattle.wac_types_base.specs.Tree.{Tree, rigid, handle_own, handle_borrow, end, tree_of}
+use Rattle.wac_types_base.specs.Tree.{Tree, rigid, handle_own, handle_borrow, end}
 use Rattle.wac_types_fit.specs.Trees.{tree_in}
 use Rattle.wac_types_fit.specs.Checking.{value_tree}
-use Rattle.wac_types_fit.proofs.Unfolded.{same_tree, root_tree, root_no_alias, own_tree, borrow_tree}
+use Rattle.wac_types_fit.proofs.Unfolded.{own_tree, borrow_tree}
 use Rattle.wac_graph_bytes.specs.declared.value.ValueType.{ValueType as Written}
 use Rattle.wac_graph_bytes.specs.declared.value.ValueType.TheVariants.{Index}
 use Rattle.wac_graph_bytes.specs.declared.entry.DefinedType.TheVariants as code
