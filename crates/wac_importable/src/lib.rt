@@ -2,7 +2,7 @@
 //! is the contract of a function without a body.
 #![tactic(auto)]
 
-ghost use Rattle.wac_importable.specs.Importable.{NamesAreImportable, InstancesAreImportable};
+ghost use Rattle.wac_importable.specs.Importable.{NamesAreImportable, InstancesAreImportable, GraphsAreImportable};
 
 use wac_parser_grammar::parsed_paths_stand;
 
@@ -11,9 +11,11 @@ pub fn names_are_importable()
     ensures { NamesAreImportable }
 {}
 
-/// So does the key of each package that such a document instantiates, whatever packages are handed in.
+/// So does the key of each package that such a document instantiates, whatever packages are handed in, and that of each
+/// package that a graph instantiates which holds what the document says.
 pub fn instances_are_importable()
-    ensures { InstancesAreImportable }
+    ensures documents { InstancesAreImportable }
+    ensures graphs { GraphsAreImportable }
 {
     parsed_paths_stand();
 }

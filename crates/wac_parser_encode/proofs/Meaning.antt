@@ -1,7 +1,6 @@
 -- The bytes of a graph that holds what a document says mean the ascribed wiring.
 use Rattle.std.specs.Prelude.{true, false, option_map, Result, Ok, Err, IfOk, OnOk}
-use Rattle.std.proofs.lemmas.Option.{same_Some}
-use Rattle.std.proofs.Common.{◌≡◌, ℕ, List, Some, IsSome, refl, sym, ap, subst, ◌∙◌}
+use Rattle.std.proofs.Common.{◌≡◌, ℕ, List, Some, refl, sym, ap, subst, ◌∙◌}
 use Rattle.wac_types_base.specs.declared.item.ItemKind.{ItemKind}
 use Rattle.wac_types_base.specs.declared.ids.WorldId.{WorldId}
 use Rattle.wac_types_base.specs.Record.{Collection}
@@ -41,21 +40,13 @@ use Rattle.wac_parser_resolve.specs.Ascribing.{Made, State}
 use Rattle.wac_parser_resolve.specs.Holding.{IsMade}
 use Rattle.wac_parser_resolve.specs.InDocuments.{IsBuilt}
 use Rattle.wac_parser_resolve.specs.Resolved.{Places}
-use Rattle.wac_parser_resolve.proofs.Instances.{among_named}
-use Rattle.wac_parser_resolve.proofs.Turns.{turn_back, turn_on}
+use Rattle.wac_parser_resolve.proofs.Instantiated.{said_at}
+use Rattle.wac_parser_resolve.proofs.Turns.{turn_on}
 use Rattle.wac_parser_ascribed.specs.Tied.{IsAscribed, IsTagged, handed_tag, ascribed_wiring, handed_bytes}
 use Rattle.wac_parser_ascribed.proofs.Wired.{ascribed}
 use Rattle.wac_parser_encode.specs.Processing.{IsProcessed}
 use Rattle.wac_parser_encode.specs.Sizes.{StateIn, StateImporting}
 use Rattle.wac_parser_encode.specs.Meaning.{AreTrueAs, AreTrueOf, HasResolvedWorld, ImportsAscribed, ImportsResolved, MeansAscribed, MeansResolved, imported_tag, CanBeImported}
-
--- an instance of the package was said
-record IsSaid (g : Graph) (ms : List ℕ) (s : State) (p : Packaged) : Type 0 where
-  made : Made
-  among : Among made s.made
-  place : ℕ × Span
-  is : IsMade g ms made place
-  of : is.of ≡ p
 
 module _ (g : Graph) (sound : IsGraph g) (acyclic : IsAcyclic g.types) (places : Places) (s : State) (b : IsBuilt g places s) where
   abbrev ms : List ℕ
@@ -77,16 +68,9 @@ module _ (g : Graph) (sound : IsGraph g) (acyclic : IsAcyclic g.types) (places :
       ap (λ k. worlds (tag k)) (ap package_key (sym of) ∙ a.key) ∙ h m among
       ∙ tree_is p m.world (sound.packages.stand id p at) (ap (λ (q : Packaged). stated_of g.types (ItemKind.Component q.ty)) (sym of) ∙ a.world.same)
 
-  -- the instance of a node is one that was said
-  made_at : (k : ℕ) (p : Packaged) → instantiated g k ≡ Some p → IsSaid g ms s p
-  made_at k p e =
-      let n = among_named places.instances k (b.says.all k (subst IsSome (sym e) refl)) in
-      let m = turn_back (IsMade g ms) s.made places.instances n.0 b.says.made n.1 in
-      record { made = m.0; among = m.1; place = n.0; is = m.2; of = same_Some _ _ (sym m.2.is ∙ ap (instantiated g) n.2 ∙ e) }
-
   true_at : (tag : Key → Tag) (worlds : Worlds) → AreTrueAs tag s worlds → (k : ℕ) (p : Packaged) → instantiated g k ≡ Some p → worlds (tag (package_key p)) ≡ tree_of g.types (ItemKind.Instance p.instance_type)
   true_at tag worlds h k p e =
-      let m = made_at k p e in
+      let m = said_at g places s b k p e in
       one_true tag worlds h p m.made m.place (package_stands g sound acyclic k p e).0 m.among m.is m.of (package_stands g sound acyclic k p e).1
 
   -- worlds that are true of what was said are true of the graph's packages
@@ -117,7 +101,7 @@ module _ (g : Graph) (sound : IsGraph g) (acyclic : IsAcyclic g.types) (places :
 
   pub names_of_graph : CanBeImported s → graph.HaveDependencyNames g
   names_of_graph h p made =
-      let m = made_at g sound acyclic places s b made.0 p made.1 in
+      let m = said_at g places s b made.0 p made.1 in
       subst (λ k. IsDependency (dependency_name k)) (sym m.is.key ∙ ap package_key m.of) (h m.made m.among)
 
   tagged : (W : Wiring ℕ) → IsGraphWiring g W → IsTagged imported_tag g W (graph.with_dependencies g W)

@@ -31,6 +31,7 @@ pub mod ProperStates
 pub mod ProperCollections
 pub mod Staying
 pub mod Instances
+pub mod Instantiated
 pub mod Passing
 pub mod PassedAll
 pub mod Alike
