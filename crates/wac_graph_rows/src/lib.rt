@@ -8,5 +8,4 @@ mod types;
 
 pub use encoded::EncodeRows;
 pub use graphs::GraphRows;
-pub use lines::register;
 pub use types::TypeRows;

@@ -6,8 +6,7 @@ mod types;
 mod words;
 
 pub(crate) use entries::standing;
-pub use graph::register;
-pub(crate) use graph::{Named, PACKAGE, add_lines, do_line, tell_argument_refusal};
+pub(crate) use graph::{Named, PACKAGE, add_lines, do_line, register, tell_argument_refusal};
 pub(crate) use types::{
     add_types, take_defined, take_func, take_interface, take_module_type, take_resource, take_world,
 };
