@@ -6,6 +6,7 @@ use Rattle.std.specs.Cmp.Lexicographic.{pointwise, bytes_decides}
 use Rattle.std.proofs.lemmas.Slice.Eq.{bytes_eq-Decides}
 use Rattle.std.proofs.lemmas.List.{map-append}
 use Rattle.std.proofs.Common.{◌≡◌, List, [], ◌∷◌, ◌++◌, append_assoc, map, length, Bool, true, false, true≢false, Option, Some, None, ◌⊎◌, inl, inr, refl, sym, ap, subst, ◌∙◌}
+use Rattle.wac_types_base.proofs.Lists.{value_append, value_behind}
 use Rattle.wac_types_base.specs.Entries.{Name, AreDistinct, names_of, value_at}
 use Rattle.wac_types_base.specs.Graph.{Wholes, node, Among}
 use Rattle.wac_types_base.specs.Collection.{Shape, interface}
@@ -17,7 +18,7 @@ use Rattle.wac_composition.specs.Tests.{fits}
 use Rattle.wac_composition.specs.Merging.{is_plain, is_wit, Merge, both, merged_with, merged_exports, has_use, merged_interface, rebuilt, if_kind, merge_at, merge, Asked, narrower, in_family, kept_from, kept}
 use Rattle.wac_composition.specs.Again.{IsWell, well_instance, well_interface, no_interface, Asking_twice}
 use Rattle.wac_composition.proofs.FitBack.{fits_decides}
-use Rattle.wac_composition.proofs.KeptFits.{folded_firsts, row_again, value_append, value_behind, value_passing, both_is, if_is, no_more_kept, append_nil, kept_fits}
+use Rattle.wac_composition.proofs.KeptFits.{folded_firsts, row_again, value_passing, both_is, if_is, no_more_kept, append_nil, kept_fits}
 use Rattle.wac_composition.proofs.Clashing.{merge_flat, merged_names, value_there, value_among, among_append, distinct_append, distinct_filter, name_passing, among_name, name_found, kept_further}
 use Rattle.wac_composition.proofs.Closures.{filter_among}
 use Rattle.wac_types_fit.proofs.Meeting.{mapped-some}

@@ -3,6 +3,7 @@ use Rattle.std.specs.Prelude.{◌==◌, drop, option_map, is_none, not, cond, fi
 use Rattle.std.proofs.lemmas.Option.{none-some, same_Some}
 use Rattle.std.specs.Cmp.Lexicographic.{pointwise, bytes_decides}
 use Rattle.std.proofs.Common.{◌≡◌, List, [], ◌∷◌, ◌++◌, append_assoc, map, length, Bool, true, false, true≢false, Option, Some, None, inl, inr, refl, sym, ap, subst, ◌∙◌}
+use Rattle.wac_types_base.proofs.Lists.{value_append, value_behind}
 use Rattle.wac_types_base.specs.Entries.{Name, value_at}
 use Rattle.wac_types_base.specs.Graph.{Wholes, node, no_more, more, hole, Among}
 use Rattle.wac_types_base.specs.Collection.{Shape, primitive, tuple, list, fixed_size_list, option, result, variant, record_of, flags, enum, alias, stream, future, resource, resource_alias, func, interface, world, module_type, type_of, own_of, borrow_of}
@@ -234,22 +235,6 @@ merged_all (e ∷ es) fs xs h q =
     go_others n false z rest r p = r p
 
 -- ---- the merged interface
-
-pub value_append : {V : Type 0} (xs ys : List (Name × V)) (n : Name) (v : V) → value_at xs n ≡ Some v → value_at (xs ++ ys) n ≡ Some v
-value_append [] ys n v e = absurd (none-some _ e)
-value_append (x ∷ xs) ys n v e = go (value_append xs ys n v) (pointwise ◌==◌ n x.0) e
-  where
-    go : (value_at xs n ≡ Some v → value_at (xs ++ ys) n ≡ Some v) → (b : Bool) → (if b then Some x.1 else value_at xs n) ≡ Some v → (if b then Some x.1 else value_at (xs ++ ys) n) ≡ Some v
-    go rest true q = q
-    go rest false q = rest q
-
-pub value_behind : {V : Type 0} (xs ys : List (Name × V)) (n : Name) → value_at xs n ≡ None → value_at (xs ++ ys) n ≡ value_at ys n
-value_behind [] ys n e = refl
-value_behind (x ∷ xs) ys n e = go (value_behind xs ys n) (pointwise ◌==◌ n x.0) e
-  where
-    go : (value_at xs n ≡ None → value_at (xs ++ ys) n ≡ value_at ys n) → (b : Bool) → (if b then Some x.1 else value_at xs n) ≡ None → (if b then Some x.1 else value_at (xs ++ ys) n) ≡ value_at ys n
-    go rest true q = absurd (none-some _ (sym q))
-    go rest false q = rest q
 
 -- those whose names pass a test
 pub value_passing : (t : Name → Bool) (fs : List (Name × Stated)) (n : Name) (y : Stated) → t n ≡ true → value_at fs n ≡ Some y → value_at (filter (λ f. t f.0) fs) n ≡ Some y

@@ -8,6 +8,7 @@ use Rattle.std.proofs.lemmas.Slice.Eq.{bytes_eq-Decides}
 use Rattle.std.proofs.lemmas.Bool.Decides.{Decides-eqb}
 use Rattle.std.proofs.Common.{◌≡◌, ℕ, zero, suc, List, [], ◌∷◌, ◌++◌, map, length, Bool, true, false, true≢false, Option, Some, None, ◌⊎◌, inl, inr, refl, sym, ap, subst, ◌∙◌}
 use Rattle.semver.specs.Parse.{Parts}
+use Rattle.wac_types_base.proofs.Lists.{value_append, value_behind}
 use Rattle.wac_types_base.specs.Entries.{Name, value_at}
 use Rattle.wac_types_base.specs.Graph.{Among}
 use Rattle.wac_types_base.specs.Stated.{Stated}
@@ -136,14 +137,6 @@ module _ {A : Type 0} (asks : List (Ask A)) where
   abbrev pub AreOfAsks : List (Name × Stated) → Type 0
   AreOfAsks found = (n : Name) (x : Stated) → value_at found n ≡ Some x → (b : Ask A) × Among b asks × (outer_of (class asks b) ≡ Some (n, x)) × (n ≡ spelled (class asks b))
 
-  value_kept : (xs ys : List (Name × Stated)) (n : Name) (x : Stated) → value_at xs n ≡ Some x → value_at (xs ++ ys) n ≡ Some x
-  value_kept [] ys n x e = absurd (none-some _ e)
-  value_kept (y ∷ xs) ys n x e = go (value_kept xs ys n x) (pointwise ◌==◌ n y.0) e
-    where
-      go : (value_at xs n ≡ Some x → value_at (xs ++ ys) n ≡ Some x) → (b : Bool) → (if b then Some y.1 else value_at xs n) ≡ Some x → (if b then Some y.1 else value_at (xs ++ ys) n) ≡ Some x
-      go rest true q = q
-      go rest false q = rest q
-
   value_last : (xs : List (Name × Stated)) (m : Name) (y : Stated) (n : Name) (x : Stated) → value_at (xs ++ (m, y) ∷ []) n ≡ Some x → (value_at xs n ≡ Some x) ⊎ ((n ≡ m) × (y ≡ x))
   value_last [] m y n x e = go (pointwise ◌==◌ n m) refl e
     where
@@ -157,12 +150,7 @@ module _ {A : Type 0} (asks : List (Ask A)) where
       go rest false q = rest q
 
   value_there : (xs : List (Name × Stated)) (m : Name) (y : Stated) → value_at xs m ≡ None → value_at (xs ++ (m, y) ∷ []) m ≡ Some y
-  value_there [] m y e = ap (λ (b : Bool). if b then Some y else None) (names_itself m)
-  value_there (z ∷ xs) m y e = go (value_there xs m y) (pointwise ◌==◌ m z.0) e
-    where
-      go : (value_at xs m ≡ None → value_at (xs ++ (m, y) ∷ []) m ≡ Some y) → (b : Bool) → (if b then Some z.1 else value_at xs m) ≡ None → (if b then Some z.1 else value_at (xs ++ (m, y) ∷ []) m) ≡ Some y
-      go rest true q = absurd (none-some _ (sym q))
-      go rest false q = rest q
+  value_there xs m y e = value_behind xs ((m, y) ∷ []) m e ∙ ap (λ (b : Bool). if b then Some y else None) (names_itself m)
 
   -- under an outer import's name, no other one
   one_outer : (a b : Ask A) (n : Name) (x y : Stated) → Among a asks → Among b asks → outer_of (class asks a) ≡ Some (n, x) → outer_of (class asks b) ≡ Some (n, y) → n ≡ spelled (class asks a) → n ≡ spelled (class asks b) → x ≡ y
@@ -201,7 +189,7 @@ module _ {A : Type 0} (asks : List (Ask A)) where
           | inl f ↦ h k z f
           | inr f ↦ (a, m, e ∙ ap Some (λ i. (sym f.0 i, f.1 i)), f.0 ∙ spelled_outer (class asks a) n x e)
         ];
-        kept = λ k z r. value_kept found ((n, x) ∷ []) k z r;
+        kept = λ k z r. value_append found ((n, x) ∷ []) k z r;
         there = λ k z r.
             let own : (n, x) ≡ (k, z) = same_Some _ _ (sym e ∙ r) in
             subst (λ (w : Name × Stated). value_at (found ++ (n, x) ∷ []) w.0 ≡ Some w.1) own (value_there found n x q);

@@ -4,6 +4,7 @@ use Rattle.std.specs.Prelude.{◌==◌, ◌||◌, bytes_eq, filter_map}
 use Rattle.std.specs.Bool.{Decides}
 use Rattle.std.specs.Cmp.Lexicographic.{pointwise}
 use Rattle.std.specs.List.{cons_option}
+use Rattle.std.specs.Option.{option_or}
 use Rattle.std.proofs.lemmas.Slice.Eq.{bytes_eq-Decides}
 use Rattle.wac_types_base.specs.Graph.{Among}
 use Rattle.wac_types_base.specs.Entries.{Name, names_of, has_name, value_at, put_entry, IsNew}
@@ -75,10 +76,6 @@ from_place f (x ∷ xs) (suc i) y e = from_place f xs i y e
 
 -- ---- options, pairs and tests
 
-abbrev pub first_of : {X : Type 0} → Option X → Option X → Option X
-first_of None o = o
-first_of (Some x) o = Some x
-
 pub not_some : {X : Type 0} (o : Option X) → (IsSome o → ⊥) → o ≡ None
 not_some None h = refl
 not_some (Some x) h = absurd (h refl)
@@ -140,6 +137,21 @@ value_named (x ∷ es) n v e = elim (name_tested n x.0) [
   | inl h ↦ inl h.0
   | inr h ↦ inr (value_named es n v (sym (ap (λ b. cond b (Some x.1) (value_at es n)) h.1) ∙ e))
 ]
+
+-- of two lists, the value in the first, else in the second
+pub value_both : {T : Type 0} (xs ys : List (Name × T)) (n : Name) → value_at (xs ++ ys) n ≡ option_or (value_at xs n) (value_at ys n)
+value_both [] ys n = refl
+value_both (x ∷ xs) ys n = by_test (value_both xs ys n) (pointwise ◌==◌ n x.0)
+  where
+    by_test : value_at (xs ++ ys) n ≡ option_or (value_at xs n) (value_at ys n) → (b : Bool) → cond b (Some x.1) (value_at (xs ++ ys) n) ≡ option_or (cond b (Some x.1) (value_at xs n)) (value_at ys n)
+    by_test h true = refl
+    by_test h false = h
+
+pub value_append : {T : Type 0} (xs ys : List (Name × T)) (n : Name) (v : T) → value_at xs n ≡ Some v → value_at (xs ++ ys) n ≡ Some v
+value_append xs ys n v e = value_both xs ys n ∙ ap (λ o. option_or o (value_at ys n)) e
+
+pub value_behind : {T : Type 0} (xs ys : List (Name × T)) (n : Name) → value_at xs n ≡ None → value_at (xs ++ ys) n ≡ value_at ys n
+value_behind xs ys n e = value_both xs ys n ∙ ap (λ o. option_or o (value_at ys n)) e
 
 -- where no name stands, no entry does
 pub no_entries : {X : Type 0} (es : List (Name × X)) → names_of es ≡ [] → es ≡ []

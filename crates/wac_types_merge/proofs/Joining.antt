@@ -2,7 +2,7 @@
 use Rattle.std.proofs.lemmas.List.{append-nil}
 use Rattle.std.proofs.Common.{◌≡◌, ℕ, ◌+◌, List, [], ◌∷◌, ◌++◌, take, Option, Some, None, Bool, true, false, if◌then◌else◌, append_assoc, refl, sym, ap, subst, ◌∙◌, inl, inr}
 use Rattle.std.specs.Prelude.{◌==◌, is_some, slice_get}
-use Rattle.std.specs.Option.{option_map}
+use Rattle.std.specs.Option.{option_map, option_or}
 use Rattle.std.specs.Cmp.Lexicographic.{pointwise}
 use Rattle.std.proofs.lemmas.Slice.Eq.{bytes_eq-Decides}
 use Rattle.wac_types_base.specs.declared.item.ItemKind.{ItemKind}
@@ -14,7 +14,7 @@ use Rattle.wac_types_base.specs.Tree.{instance}
 use Rattle.wac_types_base.proofs.Again.{name_before}
 use Rattle.wac_types_base.proofs.Looked.{take-one_more}
 use Rattle.wac_types_base.proofs.Loops.{map-append, map-take}
-use Rattle.wac_types_base.proofs.Lists.{among_split, first_of, value_none}
+use Rattle.wac_types_base.proofs.Lists.{among_split, value_both, value_none}
 use Rattle.wac_types_fit.specs.Lookups.{lookup}
 use Rattle.wac_types_fit.specs.Meets.{IsMeet}
 use Rattle.wac_types_fit.specs.Trees.{tree_in}
@@ -27,14 +27,6 @@ use Rattle.wac_types_merge.specs.Interfaces.{if_new, new_in, SlotInside, JoinedI
 use Rattle.wac_types_merge.proofs.Grown.{tree_kept, slot_kept, inside_kept}
 
 -- ---- look-ups
-
-either_test : {T : Type 0} (t : Bool) (v : T) (o p q : Option T) → o ≡ first_of p q → (if t then Some v else o) ≡ first_of (if t then Some v else p) q
-either_test true v o p q h = refl
-either_test false v o p q h = h
-
-value_at-append : {T : Type 0} (es fs : List (Name × T)) (n : Name) → value_at (es ++ fs) n ≡ first_of (value_at es n) (value_at fs n)
-value_at-append [] fs n = refl
-value_at-append (e ∷ es) fs n = either_test (pointwise ◌==◌ n e.0) e.1 (value_at (es ++ fs) n) (value_at es n) (value_at fs n) (value_at-append es fs n)
 
 not_some : {T : Type 0} (o : Option T) → is_some o ≡ true → o ≡ None → ⊥
 not_some None e h = absurd (cc e)
@@ -182,15 +174,15 @@ joined_new c fs d es gs i n k at apart h m =
 -- ---- the meet
 
 module _ (c d e : Collection) (g : Grows c d) (h : Grows d e) (f : Grows c e) where
-  joins_at : (o p r z q : Option ItemKind) → JoinedAt c o p d r → SlotStands c p → (o ≡ None → q ≡ p) → z ≡ first_of r q → Joins (option_map (tree_in c) o) (option_map (tree_in c) p) (option_map (tree_in e) z)
+  joins_at : (o p r z q : Option ItemKind) → JoinedAt c o p d r → SlotStands c p → (o ≡ None → q ≡ p) → z ≡ option_or r q → Joins (option_map (tree_in c) o) (option_map (tree_in c) p) (option_map (tree_in e) z)
   joins_at None p r z q j s new is =
-      let only : z ≡ p = is ∙ ap (λ x. first_of x q) j ∙ new refl in
+      let only : z ≡ p = is ∙ ap (λ x. option_or x q) j ∙ new refl in
       ap (option_map (tree_in e)) only ∙ slot_kept c e f p s
   joins_at (Some k) None r z q j s new is =
-      let only : z ≡ Some j.0 = is ∙ ap (λ x. first_of x q) j.1 in
+      let only : z ≡ Some j.0 = is ∙ ap (λ x. option_or x q) j.1 in
       ap (option_map (tree_in e)) only ∙ ap Some (tree_kept d e h j.0 j.2.0 ∙ j.2.1)
   joins_at (Some k) (Some b) r z q j s new is =
-      let only : z ≡ Some j.0 = is ∙ ap (λ x. first_of x q) j.1 in
+      let only : z ≡ Some j.0 = is ∙ ap (λ x. option_or x q) j.1 in
       (tree_in d j.0, ap (option_map (tree_in e)) only ∙ ap Some (tree_kept d e h j.0 j.2.stands), j.2.meet)
 
   found_stands : (fs : List (Name × ItemKind)) (n : Name) (o : Option ItemKind) → AllStand c fs → value_at fs n ≡ o → SlotStands c o
@@ -201,7 +193,7 @@ module _ (c d e : Collection) (g : Grows c d) (h : Grows d e) (f : Grows c e) wh
     joins_all : (n : Name) → Joins (option_map (tree_in c) (value_at es n)) (option_map (tree_in c) (value_at fs n)) (option_map (tree_in e) (value_at (ms ++ new_in es fs) n))
     joins_all n =
         joins_at (value_at es n) (value_at fs n) (value_at ms n) (value_at (ms ++ new_in es fs) n) (value_at (new_in es fs) n)
-        (joined_at c fs d es ms j n) (found_stands fs n (value_at fs n) s refl) (new-found es fs n) (value_at-append ms (new_in es fs) n)
+        (joined_at c fs d es ms j n) (found_stands fs n (value_at fs n) s refl) (new-found es fs n) (value_both ms (new_in es fs) n)
 
     -- the merged items and the new ones are the meet of the two instances
     pub merged_meet : IsMeet (instance (fields_in e (ms ++ new_in es fs))) (instance (fields_in c es) ∷ instance (fields_in c fs) ∷ [])
