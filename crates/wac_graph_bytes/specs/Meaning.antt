@@ -1,5 +1,5 @@
 -- The wiring that a component's entries state, and what a byte string means.
-use Rattle.std.specs.Prelude.{◌≡◌, ℕ, Bool, true, false, List, [], ◌∷◌, ◌++◌, length, Option, Some, None, slice_get, if◌then◌else◌, ◌||◌}
+use Rattle.std.specs.Prelude.{◌≡◌, ℕ, Bool, true, false, List, [], ◌∷◌, ◌++◌, length, codes, Option, Some, None, slice_get, if◌then◌else◌, ◌||◌}
 use Rattle.std.specs.Option.{option_map}
 use Rattle.std.specs.List.{AllByRecursion}
 use Rattle.wac_types_base.specs.Tree.{Tree}
@@ -10,7 +10,6 @@ use Rattle.wac_types_base.specs.Entries.{Name, names_of, value_at, AreDistinct}
 use Rattle.wac_graph_bytes.specs.Entries.{Argument, Entry, Core, Nested, Instantiate, Aliased, Typed, Imported, Exported, Section, entries_of}
 use Rattle.wac_graph_bytes.specs.Spelling.{component_bytes}
 use Rattle.wac_graph_bytes.specs.Sizes.{section_fits}
-use Rattle.wac_names.specs.ComponentNames.{IsDependency}
 use Rattle.wac_graph_bytes.specs.Wirings.{Source, Absent, Outer, Inst, Projection, Definition, Asks, Tag, OfBytes, OfDependency, Instantiation, Wiring}
 use Rattle.wac_graph_bytes.specs.Typing.{◌>>=◌, Meaning, Item, Made, Part, Known, Code, Scope, no_scope, with_one, with_core, found, Worlds, item_of, item_tree, module_tree, described, alias_sort, alias_of, type_of, same_name}
 
@@ -135,10 +134,14 @@ wiring_of l = record {
 abbrev pub IsApart : Listed → Source ℕ → Type 0
 IsApart l s = Asks (λ n. is_package n l.instances ≡ false) s
 
--- an instance of an import is one of a component that is imported under a dependency's name
+-- the name under which a package is imported, whatever it is called
+abbrev pub NamesPackage : Name → Type 0
+NamesPackage n = (called : Name) × (n ≡ codes "unlocked-dep=<" ++ (called ++ codes ">"))
+
+-- an instance of an import is one of a component that is imported under a package's name
 abbrev pub IsMadeOf : Tag → Type 0
 IsMadeOf (OfBytes bytes) = Unit {0}
-IsMadeOf (OfDependency n) = IsDependency n
+IsMadeOf (OfDependency n) = NamesPackage n
 
 -- what holds of an instance: its arguments' names are distinct, and none of them is a package
 pub record IsMade (l : Listed) (x : Tag × List (Name × Source ℕ)) : Type 0 where
