@@ -16,7 +16,7 @@ use Rattle.wac_types_base.proofs.Telling.{stated_step, untyped_stated}
 use Rattle.wac_parser_tree.specs.Trees as t
 use Rattle.wac_parser_tree.specs.Trees.{Span}
 use Rattle.wac_parser_refusals.specs.declared.refusal.Refusal.{Refusal}
-use Rattle.wac_parser_refusals.specs.Causes.{Answer, ◌>>=◌, ◌>>◌, DuplicateWorldItem, TypeCannotBeWritten, pure, unless_clear}
+use Rattle.wac_parser_refusals.specs.Causes.{Answer, ◌>>=◌, ◌>>◌, DuplicateWorldItem, TypeCannotBeWritten, pure, unless_clear, plainly}
 use Rattle.wac_parser_refusals.specs.Views.{Names}
 use Rattle.wac_parser_refusals.specs.Outcomes.{IsHeld, IsOutcome, IsRefusal}
 use Rattle.wac_parser_declare.specs.declared.bodies.Body.{Body}
@@ -69,11 +69,11 @@ module _ (c : Collection) (a : IsAcyclic c) (i : InterfaceId) where
 
 module _ (w : Name) (k : ExternKind) (b : stated.Body) (at : Span) (x : Stated) where
   -- an interface without identifier
-  pub unnamed_refused : (e : Refusal) → identifier_of x ≡ None → Names e (Some (record { fault = TypeCannotBeWritten w; span = None })) → IsRefusal (on_side k b (interface_added w k (items_on k b) at x)) e
+  pub unnamed_refused : (e : Refusal) → identifier_of x ≡ None → Names e (Some (plainly (TypeCannotBeWritten w) None)) → IsRefusal (on_side k b (interface_added w k (items_on k b) at x)) e
   unnamed_refused e none h =
       side_refused k b (interface_added w k (items_on k b) at x) e
       (subst (λ (o : Option Name). IsRefusal (with_identifier w o >>= λ n. item_on w k (items_on k b) (record { string = n; span = at }) (untyped x)) e) (sym none)
-      (told e (record { fault = TypeCannotBeWritten w; span = None }) h))
+      (told e (TypeCannotBeWritten w) None h))
 
   -- an interface under its identifier
   pub named_added : (n : Name) → identifier_of x ≡ Some n → interface_added w k (items_on k b) at x ≡ item_on w k (items_on k b) (record { string = n; span = at }) (untyped x)

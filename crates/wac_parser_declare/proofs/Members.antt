@@ -16,8 +16,8 @@ use Rattle.wac_parser_tree.specs.Trees as t
 use Rattle.wac_parser_tree.specs.Trees.{Span}
 use Rattle.wac_parser_tree.specs.Accessors.{ty_span}
 use Rattle.wac_parser_refusals.specs.declared.refusal.Refusal.{Refusal}
-use Rattle.wac_parser_refusals.specs.Views.{Names, cause_in}
-use Rattle.wac_parser_refusals.specs.Causes.{Answer, Cause, Fault, ◌>>=◌, ◌>>◌, unless_clear, BorrowInResult, NotFuncType}
+use Rattle.wac_parser_refusals.specs.Views.{Names, cause_in, maybe_at}
+use Rattle.wac_parser_refusals.specs.Causes.{Answer, Cause, Fault, ◌>>=◌, ◌>>◌, unless_clear, BorrowInResult, NotFuncType, plainly}
 use Rattle.wac_parser_declare.specs.declared.scope.Binding.{Binding}
 use Rattle.wac_parser_declare.specs.Scope.{Scope, has}
 use Rattle.wac_parser_declare.specs.Declarations.{add_member, member, no_borrow, result_of, func_by}
@@ -91,9 +91,9 @@ pub refused_over : {T S : Type 0} (f : T → Answer S) (x y : T) (e : Refusal) �
 refused_over f x y e same h = subst (λ (z : _). IsRefusal (f z) e) same h
 
 -- a refusal that names a cause tells it
-pub told : (e : Refusal) (x : Cause) → Names e (Some x) → Tells (cause_in e) x
-told (Refusal.Named b) x h = subst (λ (o : Option Cause). Tells o x) (sym h) refl
-told Refusal.Memory x h = tt
+pub told : (e : Refusal) (f : Fault) (s : Option Span) → Names e (maybe_at f s) → Tells (cause_in e) (plainly f s)
+told (Refusal.Named b) f s h = subst (λ (o : Option Cause). Tells o (plainly f s)) (sym h) refl
+told Refusal.Memory f s h = tt
 
 -- ---- results
 

@@ -4,7 +4,7 @@ use Rattle.wac_types_base.specs.Entries.{Name}
 use Rattle.wac_types_base.specs.Stated.{Stated}
 use Rattle.wac_types_names.specs.Keys.{Key}
 use Rattle.wac_parser_tree.specs.Trees as m
-use Rattle.wac_parser_refusals.specs.Causes.{Answer, Fault, ◌>>=◌, pure}
+use Rattle.wac_parser_refusals.specs.Causes.{Answer, Fault, ◌>>=◌, pure, plainly}
 use Rattle.wac_parser_declare.specs.Scope.{Scope, Context, Path, in_package, at_root, bind}
 use Rattle.wac_parser_declare.specs.Worlds.{type_statement}
 
@@ -15,7 +15,7 @@ abbrev pub id_at : Name → ℕ → ℕ → m.Ident
 id_at n a b = record { string = n; span = sp a b }
 
 abbrev pub refusal : {A : Type 0} → Fault → ℕ → ℕ → Answer A
-refusal f a b = Err (record { fault = f; span = Some (sp a b) })
+refusal f a b = Err (plainly f (Some (sp a b)))
 
 pub record Func : Type 0 where
   pub is_async : Bool

@@ -10,7 +10,7 @@ use Rattle.wac_types_names.specs.InterfaceNames.{is_interface_name}
 use Rattle.wac_parser_tree.specs.Trees as t
 use Rattle.wac_parser_tree.specs.Trees.{Span}
 use Rattle.wac_parser_tree.specs.Segments.{Segment, segment_spans, package_name_span}
-use Rattle.wac_parser_refusals.specs.Causes.{Answer, ◌>>=◌, ◌>>◌, pure, refuse, present, UndefinedName, DuplicateName, UnknownPackage, PackageMissingExport, PackagePathMissingExport}
+use Rattle.wac_parser_refusals.specs.Causes.{Answer, ◌>>=◌, ◌>>◌, pure, refuse, present, UndefinedName, DuplicateName, UnknownPackage, PackageMissingExport, PackagePathMissingExport, plainly}
 
 -- an item, and where it got its name
 pub record Meant : Type 0 where
@@ -125,11 +125,11 @@ segment_ident s = record { string = s.0; span = s.1 }
 
 -- no path is without segments
 abbrev pub from_root : Context → List Segment → Answer Stated
-from_root c [] = Err (record { fault = UndefinedName []; span = None })
+from_root c [] = Err (plainly (UndefinedName []) None)
 from_root c (i ∷ is) = named c.root (segment_ident i) >>= λ x. own_path i.0 x is
 
 abbrev pub from_definitions : t.PackagePath → List (Name × Stated) → List Segment → Answer Stated
-from_definitions p ds [] = Err (record { fault = UndefinedName []; span = None })
+from_definitions p ds [] = Err (plainly (UndefinedName []) None)
 from_definitions p ds (i ∷ is) =
     present (value_at ds i.0) (PackageMissingExport p.name i.0 None []) i.1 >>= λ x. package_path p.name (i ∷ []) x is
 

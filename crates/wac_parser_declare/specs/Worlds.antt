@@ -11,7 +11,7 @@ use Rattle.wac_parser_declare.specs.Scope.{Scope, Context, Path, in_package, at_
 use Rattle.wac_parser_declare.specs.Declarations.{free, type_decl}
 use Rattle.wac_parser_declare.specs.Bodies.{Body, Holder, Items, no_body, use_types, item_type, interface_at}
 use Rattle.wac_parser_declare.specs.Interfaces.{inline_interface, interface_decl}
-use Rattle.wac_parser_refusals.specs.Causes.{Answer, ◌>>=◌, ◌>>◌, pure, refuse, unless_clear, each}
+use Rattle.wac_parser_refusals.specs.Causes.{Answer, ◌>>=◌, ◌>>◌, pure, refuse, unless_clear, each, plainly}
 use Rattle.wac_parser_refusals.specs.Causes.{NotWorld, NotFuncOrInterface, DuplicateWorldItem, DuplicateWorldIncludeName, MissingWorldInclude, WorldIncludeConflict, TypeCannotBeWritten}
 
 -- ---- items
@@ -30,7 +30,7 @@ extern_type c ns (t.ExternType.interface d) = inline_interface c d
 -- an interface without identifier has no name
 abbrev pub with_identifier : Name → Option Name → Answer Name
 with_identifier world (Some i) = pure i
-with_identifier world None = Err (record { fault = TypeCannotBeWritten world; span = None })
+with_identifier world None = Err (plainly (TypeCannotBeWritten world) None)
 
 -- an interface under its identifier, at this place
 abbrev pub interface_added : Name → ExternKind → Items → Span → Stated → Answer Items

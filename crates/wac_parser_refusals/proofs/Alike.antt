@@ -3,7 +3,7 @@ use Rattle.std.specs.Prelude.{Bool, true, false, List, [], ◌∷◌, ◌++◌, 
 use Rattle.std.specs.List.{flat_map}
 use Rattle.std.proofs.Common.{◌≡◌, sym, inl, inr, true≢false}
 use Rattle.wac_types_base.specs.Graph.{Among}
-use Rattle.wac_parser_refusals.specs.Causes.{Answer, Cause, Fault, ◌>>=◌, ◌>>◌, refuse, unless_clear, present, each}
+use Rattle.wac_parser_refusals.specs.Causes.{Answer, Cause, Fault, ◌>>=◌, ◌>>◌, refuse, needs, unless_clear, present, each}
 use Rattle.wac_parser_lexer.specs.declared.span.SourceSpan.{SourceSpan as Span}
 
 pub data IsAlike {A B C : Type 0} (f : A → B) (g : A → C) : Answer B → Answer C → Type 0 where
@@ -42,6 +42,10 @@ clear_same true true x y s z e = neither _ _
 clear_same true false x y s z e = absurd (true≢false e)
 clear_same false true x y s z e = absurd (true≢false (sym e))
 clear_same false false x y s z e = both tt
+
+pub needs_alike : (b : Bool) (c d : Cause) → AreSame (needs b c) (needs b d)
+needs_alike true c d = both tt
+needs_alike false c d = neither _ _
 
 pub present_alike : {A B C : Type 0} {f : A → B} {g : A → C} (o : Option A) (x y : Fault) (s z : Span) → IsAlike f g (present (option_map f o) x s) (present (option_map g o) y z)
 present_alike None x y s z = neither _ _

@@ -1,8 +1,14 @@
 -- Outcomes, step by step.
-use Rattle.std.proofs.Common.{◌≡◌, Option, Some, None, Result, Ok, Err, sym, subst, IsErrAnd}
+use Rattle.std.proofs.Common.{◌≡◌, Bool, true, false, true≢false, Option, Some, None, Result, Ok, Err, refl, sym, subst, IsErrAnd}
+use Rattle.wac_types_base.specs.Stated.{Stated}
+use Rattle.wac_types_fit.specs.declared.checker.SubtypeCheck.{SubtypeCheck}
+use Rattle.wac_types_fit.specs.declared.errors.SubtypeError.{SubtypeError}
+use Rattle.wac_types_fit.specs.Errors.{words_of}
+use Rattle.wac_parser_lexer.specs.declared.span.SourceSpan.{SourceSpan as Span}
 use Rattle.wac_parser_refusals.specs.declared.refusal.Refusal.{Refusal}
-use Rattle.wac_parser_refusals.specs.Causes.{Answer, Cause, ◌>>=◌}
-use Rattle.wac_parser_refusals.specs.Views.{cause_in}
+use Rattle.wac_parser_refusals.specs.Causes.{Answer, Cause, Fault, ◌>>=◌, needs}
+use Rattle.wac_parser_refusals.specs.Sources.{TellsBetween, between, reported}
+use Rattle.wac_parser_refusals.specs.Views.{Names, cause_in, checked_at}
 use Rattle.wac_parser_refusals.specs.Outcomes.{IsMemory, Tells, IsHeld, IsRefusal, IsOutcome}
 
 tells_any : (o : Option Cause) (c : Cause) → IsMemory o → Tells o c
@@ -13,6 +19,22 @@ tells_any (Some d) c m = absurd m
 pub memory_refusal : {A : Type 0} (q : Answer A) (e : Refusal) → IsMemory (cause_in e) → IsRefusal q e
 memory_refusal (Ok a) e m = m
 memory_refusal (Err c) e m = tells_any (cause_in e) c m
+
+-- what the checker says tells of the two that stand behind the cause
+pub told_between : (e : Refusal) (f : Fault) (s : Option Span) (m : SubtypeError) (way : SubtypeCheck) (x y : Stated) → Names e (checked_at f s m) → TellsBetween way x y (reported (words_of m))
+    → Tells (cause_in e) (record { fault = f; span = s; source = between way x y })
+told_between (Refusal.Named b) f s m way x y h t =
+    subst (λ (o : Option Cause). Tells o (record { fault = f; span = s; source = between way x y })) (sym h) (refl, refl, t)
+told_between Refusal.Memory f s m way x y h t = tt
+
+-- what is needed is so, or it is not and that is told
+pub needs_held : {B : Type 0} (H : B → Type 0) (b : Bool) (c : Cause) (v : B) → b ≡ true → H v → IsHeld (λ u w. H w) (needs b c) v
+needs_held H true c v e h = h
+needs_held H false c v e h = absurd (true≢false (sym e))
+
+pub needs_refused : (b : Bool) (c : Cause) (e : Refusal) → b ≡ false → Tells (cause_in e) c → IsRefusal (needs b c) e
+needs_refused true c e n t = absurd (true≢false n)
+needs_refused false c e n t = t
 
 module _ {A B : Type 0} (h : A → B → Type 0) where
   pub memory_outcome : (q : Answer A) (r : Result B Refusal) → IsErrAnd r (λ f. f ≡ Refusal.Memory) → IsOutcome h q r

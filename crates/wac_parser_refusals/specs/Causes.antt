@@ -6,6 +6,7 @@ use Rattle.wac_types_base.specs.Entries.{Name}
 use Rattle.wac_types_names.specs.Keys.{Key}
 use Rattle.wac_parser_lexer.specs.declared.span.SourceSpan.{SourceSpan as Span}
 use Rattle.wac_parser_refusals.specs.declared.error.InstanceOperation.{InstanceOperation}
+use Rattle.wac_parser_refusals.specs.Sources.{Source, nothing}
 
 -- in each, the fields are those of the error; a `help` is whether there is one
 pub data Fault : Type 0 where
@@ -90,10 +91,15 @@ pub data Fault : Type 0 where
   DuplicateResult : Name → FuncKind → Fault
   BorrowInResult : Fault
 
--- a fault, and where it stands if it has a place
+-- a fault, where it stands if it has a place, and what stands behind it
 pub record Cause : Type 0 where
   pub fault : Fault
   pub span : Option Span
+  pub source : Source
+
+-- with nothing behind it
+abbrev pub plainly : Fault → Option Span → Cause
+plainly f s = record { fault = f; span = s; source = nothing }
 
 abbrev pub Answer : Type 0 → Type 0
 Answer A = Result A Cause
@@ -112,12 +118,17 @@ abbrev pub pure : {A : Type 0} → A → Answer A
 pure a = Ok a
 
 abbrev pub refuse : {A : Type 0} → Fault → Span → Answer A
-refuse f s = Err (record { fault = f; span = Some s })
+refuse f s = Err (plainly f (Some s))
 
 -- refused where this is so
 abbrev pub unless_clear : Bool → Fault → Span → Answer ⊤
 unless_clear true f s = refuse f s
 unless_clear false f s = Ok tt
+
+-- refused where this is not so
+abbrev pub needs : Bool → Cause → Answer ⊤
+needs true c = Ok tt
+needs false c = Err c
 
 abbrev pub present : {A : Type 0} → Option A → Fault → Span → Answer A
 present None f s = refuse f s

@@ -1,3 +1,4 @@
+pub mod Sources
 pub mod Causes
 pub mod Views
 pub mod Outcomes

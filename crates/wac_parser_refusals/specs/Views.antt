@@ -2,21 +2,28 @@
 use Rattle.std.specs.Prelude.{◌≡◌, Option, Some, None, is_some, option_map, string_bytes}
 use Rattle.wac_names.specs.declared.error.ValidationFault.{ValidationFault}
 use Rattle.wac_types_base.specs.declared.item.ExternKind.{ExternKind}
+use Rattle.wac_types_fit.specs.declared.errors.SubtypeError.{SubtypeError}
+use Rattle.wac_types_fit.specs.Errors.{words_of}
 use Rattle.wac_types_names.specs.Keys.{owned_key}
 use Rattle.wac_parser_lexer.specs.declared.span.SourceSpan.{SourceSpan as Span}
-use Rattle.wac_parser_refusals.specs.Causes.{Cause, Fault}
+use Rattle.wac_parser_refusals.specs.Causes.{Cause, Fault, plainly}
+use Rattle.wac_parser_refusals.specs.Sources.{reported}
 use Rattle.wac_parser_refusals.specs.declared.error.Error.{Error}
 use Rattle.wac_parser_refusals.specs.declared.error.Error.TheVariants as error
 use Rattle.wac_parser_refusals.specs.declared.refusal.Refusal.{Refusal}
 
 abbrev pub at_place : Fault → Span → Option Cause
-at_place f s = Some (record { fault = f; span = Some s })
+at_place f s = Some (plainly f (Some s))
 
 abbrev pub maybe_at : Fault → Option Span → Option Cause
-maybe_at f s = Some (record { fault = f; span = s })
+maybe_at f s = Some (plainly f s)
 
 abbrev pub anywhere : Fault → Option Cause
-anywhere f = Some (record { fault = f; span = None })
+anywhere f = Some (plainly f None)
+
+-- what the checker says stands behind it
+abbrev pub checked_at : Fault → Option Span → SubtypeError → Option Cause
+checked_at f s e = Some (record { fault = f; span = s; source = reported (words_of e) })
 
 -- two names that are too alike
 abbrev pub alike_fault : ValidationFault → Fault
@@ -36,7 +43,7 @@ cause_of (error.PackagePathMissingExport name kind export span) =
 cause_of (error.MissingComponentImport package_ import_ span) =
     at_place (Fault.MissingComponentImport (string_bytes package_) (string_bytes import_)) span
 cause_of (error.MismatchedInstantiationArg name span source) =
-    at_place (Fault.MismatchedInstantiationArg (string_bytes name)) span
+    checked_at (Fault.MismatchedInstantiationArg (string_bytes name)) (Some span) source
 cause_of (error.DuplicateInstantiationArg name span) = at_place (Fault.DuplicateInstantiationArg (string_bytes name)) span
 cause_of (error.MissingInstantiationArg name package_ span) =
     at_place (Fault.MissingInstantiationArg (string_bytes name) (string_bytes package_)) span
@@ -64,7 +71,7 @@ cause_of (error.ImportNotInTarget name world span) =
 cause_of (error.MissingTargetExport name kind world span) =
     at_place (Fault.MissingTargetExport (string_bytes name) kind.now (string_bytes world)) span
 cause_of (error.TargetMismatch kind name world span source) =
-    maybe_at (Fault.TargetMismatch kind (string_bytes name) (string_bytes world)) span
+    checked_at (Fault.TargetMismatch kind (string_bytes name) (string_bytes world)) span source
 cause_of (error.ValidationFailure source) = anywhere (alike_fault source)
 cause_of (error.TypeCannotBeWritten name) = anywhere (Fault.TypeCannotBeWritten (string_bytes name))
 cause_of error.TooLarge = anywhere Fault.TooLarge

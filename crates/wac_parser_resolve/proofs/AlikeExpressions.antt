@@ -14,7 +14,7 @@ use Rattle.wac_parser_tree.specs.Named.{Named, in_expr, in_primary, in_new, in_n
 use Rattle.wac_parser_tree.specs.Accessors.{argument_name_span, postfix_expr_span, primary_expr_span}
 use Rattle.wac_parser_refusals.specs.declared.error.InstanceOperation.{InstanceOperation}
 use Rattle.wac_parser_refusals.specs.Causes.{Answer, pure, each, DuplicateInstantiationArg}
-use Rattle.wac_parser_refusals.proofs.Alike.{IsAlike, both, neither, itself, AreSame, then_alike, next_alike, clear_alike, clear_same, present_same, each_alike, each_same, front_holds, back_holds}
+use Rattle.wac_parser_refusals.proofs.Alike.{IsAlike, both, neither, itself, AreSame, then_alike, next_alike, clear_alike, clear_same, needs_alike, present_same, each_alike, each_same, front_holds, back_holds}
 use Rattle.wac_parser_declare.specs.Packages.{Content}
 use Rattle.wac_parser_declare.proofs.AlikeScopes.{IsSameIn, AreSameIn, package_alike}
 use Rattle.wac_parser_resolve.specs.Ascribing.{Denoted, Made, State, instance, worlds_of}
@@ -23,8 +23,8 @@ use Rattle.wac_parser_resolve.proofs.AlikeStates.{bare_made, over, bare_over, de
 
 -- ---- accesses
 
-pub needs_alike : (d : Denoted) (o : InstanceOperation) (s z : Span) → AreSame (needs_instance d o s) (needs_instance d o z)
-needs_alike d o s z = clear_alike (not (is_instance_kind (kind_of d.item))) _ _ s z
+pub needs_instance_alike : (d : Denoted) (o : InstanceOperation) (s z : Span) → AreSame (needs_instance d o s) (needs_instance d o z)
+needs_instance_alike d o s z = clear_alike (not (is_instance_kind (kind_of d.item))) _ _ s z
 
 export_by_alike : (d : Denoted) (n : Name) (o : Option Stated) (s z : Span) → AreSame (export_by d n o s) (export_by d n o z)
 export_by_alike d n None s z = neither _ _
@@ -88,7 +88,7 @@ last_bare (t.argument a as_) = refl
 
 argument_fits_alike : (k : Key) (w : Stated) (u : ⊤) (a : Given) → AreSame (argument_fits k w u a) (argument_fits k w u (bare_given a))
 argument_fits_alike k w u a = then_alike _ _ (present_same (value_at (imports_of w) a.name) _ _ a.span nowhere)
-    (λ x. clear_alike (not (fits (compared_by a.denoted.origin a.denoted.item) x)) _ _ a.span nowhere)
+    (λ x. needs_alike (fits (compared_by a.denoted.origin a.denoted.item) x) _ _)
 
 none_missing_alike : (p : t.PackageName) (o : Option Name) → AreSame (none_missing p o) (none_missing (bare_package_name p) o)
 none_missing_alike p None = both tt
@@ -123,7 +123,7 @@ module _ (ps qs : List (Key × Content)) where
   -- ---- steps over what was said
 
   access_alike : (s z : Span) (g : State) (d : Denoted) (p : t.PostfixExpr) → IsDenotedAlike ps qs (access s (over ps g) d p) (access z (bare_over qs g) d (bare_postfix p))
-  access_alike s z g d p = next_alike (needs_alike d InstanceOperation.Access s z) (spoken_alike ps qs g _ _ (access_by_alike d p))
+  access_alike s z g d p = next_alike (needs_instance_alike d InstanceOperation.Access s z) (spoken_alike ps qs g _ _ (access_by_alike d p))
 
   accesses_alike : (s z : Span) (g : State) (d : Denoted) (as_ : List t.PostfixExpr) → IsDenotedAlike ps qs (accesses s (over ps g) d as_) (accesses z (bare_over qs g) d (map bare_postfix as_))
   accesses_alike s z g d [] = both (g, d)
@@ -153,7 +153,7 @@ module _ (ps qs : List (Key × Content)) where
 
   spread_one_alike : (ns : List Name) (r : State × List Given) (i : t.Ident) → IsGivenAlike (spread_one ns (left_given r) i) (spread_one ns (right_given r) (bare_ident i))
   spread_one_alike ns r i = then_alike _ _ (denoted_alike (over ps r.0) (bare_over qs r.0) i refl)
-      (λ d. next_alike (needs_alike d InstanceOperation.Spread i.span nowhere)
+      (λ d. next_alike (needs_instance_alike d InstanceOperation.Spread i.span nowhere)
       (subst (λ (ms : List Name). IsGivenAlike (spread_all i.span d (left_given r) (left_names r.1 ns d.item)) (spread_all nowhere d (right_given r) (filter (λ n. not (has_name ms n) && is_some (value_at (exports_of d.item) n)) ns)))
       (sym (names_bare r.1)) (spread_all_alike i.span d r (left_names r.1 ns d.item))))
 

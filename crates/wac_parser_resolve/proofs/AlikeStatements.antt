@@ -27,7 +27,7 @@ use Rattle.wac_parser_declare.proofs.Kept.{with_values-more}
 use Rattle.wac_parser_resolve.specs.Ascribing.{imported, defined, Denoted, Import, Bound, State, start, root_scope, worlds_of, context, bound, speak_of, is_own_definition}
 use Rattle.wac_parser_resolve.specs.Saying.{is_exportable, is_extern_name, asked, identified, written_name, told_name, import_name, import_called, not_imported, with_import, import_statement, not_exported, with_definition, declaration, type_id, declared_id, no_definition, new_export, exported, export_name, export_one, export_left, export_as, expr_span, statement, statements}
 use Rattle.wac_parser_resolve.proofs.AlikeStates.{bare_bound, bare_asked, bare_exports, over, bare_over, scope_bare, context_bare, IsSaidAlike, bound_alike, spoken_over, spoken_bare}
-use Rattle.wac_parser_resolve.proofs.AlikeExpressions.{needs_alike, export_named_alike, denote_alike}
+use Rattle.wac_parser_resolve.proofs.AlikeExpressions.{needs_instance_alike, export_named_alike, denote_alike}
 
 -- ---- names
 
@@ -173,7 +173,7 @@ module _ (ps qs : List (Key × Content)) where
 
   export_as_alike : (g : State) (s : Span) (d : Denoted) (o : t.ExportOptions) → IsSaidAlike ps qs (export_as (over ps g) s d o) (export_as (bare_over qs g) nowhere d (bare_options o))
   export_as_alike g s d t.ExportOptions.none = then_alike _ _ (present_same (export_name d) ExportRequiresAs ExportRequiresAs s nowhere) (λ n. exported_alike d true g (record { string = n; span = s }))
-  export_as_alike g s d (t.ExportOptions.spread dots) = next_alike (needs_alike d InstanceOperation.Spread s nowhere)
+  export_as_alike g s d (t.ExportOptions.spread dots) = next_alike (needs_instance_alike d InstanceOperation.Spread s nowhere)
       (subst (λ (ns : List Name). IsSaidAlike ps qs (export_left (over ps g) s dots d (filter (λ n. not (is_some (value_at g.exports n))) (names_of (exports_of d.item)))) (export_left (bare_over qs g) nowhere nowhere d ns))
       (sym (left_bare g.exports (names_of (exports_of d.item)))) (export_left_alike g s dots d (filter (λ n. not (is_some (value_at g.exports n))) (names_of (exports_of d.item)))))
   export_as_alike g s d (t.ExportOptions.rename n) = subst (λ (i : t.Ident). IsSaidAlike ps qs (exported d false (over ps g) (written_name n)) (exported d false (bare_over qs g) i)) (sym (written_bare n)) (exported_alike d false g (written_name n))

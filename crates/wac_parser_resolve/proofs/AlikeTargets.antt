@@ -3,7 +3,6 @@ use Rattle.std.specs.Prelude.{Bool, true, false, not, if◌then◌else◌, List,
 use Rattle.std.specs.List.{flat_map}
 use Rattle.std.proofs.Common.{◌≡◌, refl, sym, ap, ◌∙◌, subst}
 use Rattle.std.proofs.lemmas.List.{map-append}
-use Rattle.wac_types_base.specs.declared.item.ExternKind.{ExternKind}
 use Rattle.wac_types_base.specs.Entries.{Name, value_at}
 use Rattle.wac_types_base.specs.Stated.{Stated, Kind, IsFunction, IsInstance, IsComponent, IsModule, IsValue, IsResource, IsFunctionType, IsValueType, IsInterface, IsWorld, IsModuleType, kind_of, promote, untyped, exports_of, imports_of}
 use Rattle.wac_types_base.proofs.Stating.{value_with}
@@ -13,8 +12,8 @@ use Rattle.wac_parser_tree.specs.Trees as t
 use Rattle.wac_parser_tree.specs.Trees.{Span}
 use Rattle.wac_parser_tree.specs.Bare.{nowhere, bare_package_path, bare}
 use Rattle.wac_parser_tree.specs.Named.{Named, in_target, in_statement, packages_named}
-use Rattle.wac_parser_refusals.specs.Causes.{Answer, pure, each, TypeCannotBeWritten, TargetMismatch}
-use Rattle.wac_parser_refusals.proofs.Alike.{IsAlike, both, neither, itself, AreSame, first, then_alike, next_alike, clear_alike, each_alike, each_same, front_holds, back_holds}
+use Rattle.wac_parser_refusals.specs.Causes.{Answer, pure, each, TypeCannotBeWritten}
+use Rattle.wac_parser_refusals.proofs.Alike.{IsAlike, both, neither, itself, AreSame, first, then_alike, next_alike, needs_alike, each_alike, each_same, front_holds, back_holds}
 use Rattle.wac_parser_declare.specs.Packages.{Content}
 use Rattle.wac_parser_declare.specs.Scope.{path_item}
 use Rattle.wac_parser_declare.proofs.AlikeScopes.{IsSameIn, AreSameIn, path_alike}
@@ -54,15 +53,11 @@ wanted_bare qs g = ap (λ ws. ws ++ flat_map wanted_by_instance (map bare_made g
 
 import_by_alike : (p : t.PackagePath) (a : Wanted) (o : Option Stated) → AreSame (import_met p a o) (import_met (bare_package_path p) (bare_wanted a) o)
 import_by_alike p a None = neither _ _
-import_by_alike p a (Some x) = go (fits (promote x) a.item)
-  where
-    go : (b : Bool) → AreSame (if b then pure tt else refuse_at (TargetMismatch ExternKind.Import a.name p.string) a.span) (if b then pure tt else refuse_at (TargetMismatch ExternKind.Import a.name p.string) (option_map (λ (z : Span). nowhere) a.span))
-    go true = both tt
-    go false = neither _ _
+import_by_alike p a (Some x) = needs_alike (fits (promote x) a.item) _ _
 
 export_by_alike : (g h : State) (p : t.PackagePath) (n : Name) (x : Stated) (o : Option Bound) → AreSame (export_met g p n x o) (export_met h (bare_package_path p) n x (option_map bare_bound o))
 export_by_alike g h p n x None = neither _ _
-export_by_alike g h p n x (Some e) = clear_alike (not (fits e.denoted.item (promote x))) _ _ _ _
+export_by_alike g h p n x (Some e) = needs_alike (fits e.denoted.item (promote x)) _ _
 
 named_alike : (p : t.PackagePath) (b : Bool) → AreSame (if b then pure tt else refuse_at (TypeCannotBeWritten p.string) None) (if b then pure tt else refuse_at (TypeCannotBeWritten p.string) None)
 named_alike p true = both tt

@@ -21,7 +21,7 @@ use Rattle.wac_graph_core.proofs.NodeMap.{get-insert_same}
 use Rattle.wac_parser_tree.specs.Trees as t
 use Rattle.wac_parser_tree.specs.Trees.{Span}
 use Rattle.wac_parser_refusals.specs.declared.refusal.Refusal.{Refusal}
-use Rattle.wac_parser_refusals.specs.Causes.{◌>>◌, DeclarationConflict, InvalidExternName, unless_clear}
+use Rattle.wac_parser_refusals.specs.Causes.{◌>>◌, DeclarationConflict, InvalidExternName, unless_clear, plainly}
 use Rattle.wac_parser_refusals.specs.Outcomes.{IsMemory, IsOutcome, IsRefusal, Tells}
 use Rattle.wac_parser_refusals.specs.Views.{Names, cause_in}
 use Rattle.wac_parser_refusals.proofs.Outcomes.{memory_refusal}
@@ -116,7 +116,7 @@ module _ (own : t.PackageName) (b : Held) (s : State) (said : IsSaid own b s) (i
 
   -- the export of the name stands where its node is noted last
   place_of : (k : ℕ) (o : Option Bound) → value_at s.exports i.string ≡ o → AreFound g ms o (Some k) → (e : Refusal)
-      → Tells (cause_in e) (record { fault = DeclarationConflict i.string (unwrap_or (last_noted b.exports.noted.items k) i.span); span = Some i.span })
+      → Tells (cause_in e) (plainly (DeclarationConflict i.string (unwrap_or (last_noted b.exports.noted.items k) i.span)) (Some i.span))
       → IsRefusal (not_exported s o i >> bound (with_definition s i x) i here) e
   place_of k None is f e tells = absurd f
   place_of k (Some p) is f e tells =
@@ -125,21 +125,21 @@ module _ (own : t.PackageName) (b : Held) (s : State) (said : IsSaid own b s) (i
       let own_node : at.0.0 ≡ k = same_node g sound ms p.denoted.origin p.denoted.origin at.0.0 k thing at.2.denotes.node f.node in
       let place : export_span s p ≡ unwrap_or (last_noted b.exports.noted.items k) i.span =
       export_place g sound ms (rises_apart ms said.board.says.rising) p.denoted.origin k f.node s.exports b.exports.noted.items p.span i.span at.0 said.exports.noted at.1 own_node in
-      subst (λ (z : Span). Tells (cause_in e) (record { fault = DeclarationConflict i.string z; span = Some i.span })) (sym place) tells
+      subst (λ (z : Span). Tells (cause_in e) (plainly (DeclarationConflict i.string z) (Some i.span))) (sym place) tells
 
   pub definition_refused : (fault : DefineTypeError) (e : Refusal) → DefineRefused g i.string ty fault → Names e (definition_cause g b.exports.noted.items i fault) → IsRefusal (declaration s i x) e
   definition_refused DefineTypeError.TypeAlreadyDefined e r names = memory_refusal (declaration s i x) e (no_cause e names)
   definition_refused DefineTypeError.CannotDefineResource e r names = memory_refusal (declaration s i x) e (no_cause e names)
   definition_refused DefineTypeError.Memory e r names = memory_refusal (declaration s i x) e (no_cause e names)
   definition_refused (DefineTypeError.InvalidExternName m y) e r names =
-      let one_told = told e (record { fault = InvalidExternName (string_bytes m) ExternKind.Export; span = Some i.span }) names in
-      refused_by false e (no_extern_name i.string r.2) (subst (λ (z : Name). Tells (cause_in e) (record { fault = InvalidExternName z ExternKind.Export; span = Some i.span })) r.0 one_told)
+      let one_told = told e (InvalidExternName (string_bytes m) ExternKind.Export) (Some i.span) names in
+      refused_by false e (no_extern_name i.string r.2) (subst (λ (z : Name). Tells (cause_in e) (plainly (InvalidExternName z ExternKind.Export) (Some i.span))) r.0 one_told)
   definition_refused (DefineTypeError.ExportConflict m) e r names =
       let k = r.3 in
       let at : value_at g.exports i.string ≡ Some k = r.4 in
-      let one_told = told e (record { fault = DeclarationConflict (string_bytes m) (noted_export b.exports.noted.items i.span (value_at g.exports i.string)); span = Some i.span }) names in
-      let two = subst (λ (z : Name). Tells (cause_in e) (record { fault = DeclarationConflict z (noted_export b.exports.noted.items i.span (value_at g.exports i.string)); span = Some i.span })) r.0 one_told in
-      let three = subst (λ (o : Option ℕ). Tells (cause_in e) (record { fault = DeclarationConflict i.string (noted_export b.exports.noted.items i.span o); span = Some i.span })) at two in
+      let one_told = told e (DeclarationConflict (string_bytes m) (noted_export b.exports.noted.items i.span (value_at g.exports i.string))) (Some i.span) names in
+      let two = subst (λ (z : Name). Tells (cause_in e) (plainly (DeclarationConflict z (noted_export b.exports.noted.items i.span (value_at g.exports i.string))) (Some i.span))) r.0 one_told in
+      let three = subst (λ (o : Option ℕ). Tells (cause_in e) (plainly (DeclarationConflict i.string (noted_export b.exports.noted.items i.span o)) (Some i.span))) at two in
       refused_by true e (extern_name i.string r.2)
       (place_of k (value_at s.exports i.string) refl (subst (AreFound g ms (value_at s.exports i.string)) at found) e three)
 

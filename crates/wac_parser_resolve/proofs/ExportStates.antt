@@ -330,13 +330,13 @@ module _ (own : t.PackageName) (b : Held) (u : State) (said : IsSaid own b u) (i
         (taken_by d helped ident _ u (value_at u.exports ident.string) f.0 e f.1
         (subst (λ (s : Span). Refuses e (DuplicateExternName ident.string ExternKind.Export s helped) ident.span) at
         (subst (λ (z : Name). Refuses e (DuplicateExternName z ExternKind.Export (unwrap_or (last_noted b.exports.noted.items j) ident.span) helped) ident.span) refused.0
-        (told e _ named))))
+        (told e _ _ named))))
     graph_refused (ExportError.InvalidExportName m source) e refused named =
         subst (λ (q : Answer State). IsRefusal q e)
         (sym (no_conflict d helped ident _ (value_at u.root ident.string) free
         ∙ new_by d helped ident _ u (value_at u.exports ident.string) (none_found (value_at u.exports ident.string) (found None refused.1))))
         (invalid_by d helped ident _ (is_exportable ident.string) e (unexportable ident.string refused.2)
-        (subst (λ (z : Name). Refuses e (InvalidExternName z ExternKind.Export) ident.span) refused.0 (told e _ named)))
+        (subst (λ (z : Name). Refuses e (InvalidExternName z ExternKind.Export) ident.span) refused.0 (told e _ _ named)))
     graph_refused ExportError.Memory e refused named = memory_refusal (exported_over d helped ident u) e (memory_told e named)
 
 -- no definition is found

@@ -23,7 +23,7 @@ use Rattle.wac_graph_core.proofs.Made.{import_there, instance_there, definition_
 use Rattle.wac_graph_core.proofs.NodeMap.{get-insert_same, get-insert_other}
 use Rattle.std.proofs.lemmas.Bool.{cases_eq}
 use Rattle.wac_graph_core.proofs.NodeSteps.{IsAbove, IsAbove-fresh, IsAbove-written, IsAbove-same, some_there}
-use Rattle.wac_composition.proofs.KeptFits.{value_append}
+use Rattle.wac_types_base.proofs.Lists.{value_append}
 use Rattle.wac_parser_resolve.specs.Later.{Later, Inner, IsAsItWas, IsWithin, Stays, first_name}
 
 found_first : (b : Bool) (m n : Name) (o p : Option Name) → (o ≡ Some n → p ≡ Some n) → (if b then Some m else o) ≡ Some n → (if b then Some m else p) ≡ Some n

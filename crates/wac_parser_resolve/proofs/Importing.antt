@@ -28,7 +28,7 @@ use Rattle.wac_graph_core.proofs.NodeMap.{get-insert_same}
 use Rattle.wac_parser_tree.specs.Trees as t
 use Rattle.wac_parser_tree.specs.Trees.{Span}
 use Rattle.wac_parser_refusals.specs.declared.refusal.Refusal.{Refusal}
-use Rattle.wac_parser_refusals.specs.Causes.{Answer, ◌>>=◌, ◌>>◌, DuplicateExternName, InvalidExternName, unless_clear}
+use Rattle.wac_parser_refusals.specs.Causes.{Answer, ◌>>=◌, ◌>>◌, DuplicateExternName, InvalidExternName, unless_clear, plainly}
 use Rattle.wac_parser_refusals.specs.Outcomes.{IsMemory, IsOutcome, IsRefusal, Tells}
 use Rattle.wac_parser_refusals.specs.Views.{Names, cause_in}
 use Rattle.wac_parser_refusals.proofs.Outcomes.{memory_refusal}
@@ -235,14 +235,14 @@ module _ (own : t.PackageName) (b : Held) (s : State) (said : IsSaid own b s) (x
   pub import_refused : IsGraph g → (fault : ImportError) (e : Refusal) → ImportRefused g n.string fault → Names e (import_cause b.imports.noted.items n.span (is_none x.name) fault) → IsRefusal (says_import s x n item) e
   import_refused sound (ImportError.ImportAlreadyExists m k) e r names =
       let c = called_in g b.ids.noted.items n.string sound k r.1 s.imports b.imports.noted.items said.imports.are (rises_apart (names_of b.imports.noted.items) said.imports.rising) (said.imports.all k n.string r.1) in
-      let one_told = told e (record { fault = DuplicateExternName (string_bytes m) ExternKind.Import (unwrap_or (last_noted b.imports.noted.items k) n.span) (is_none x.name); span = Some n.span }) names in
-      let two = subst (λ (y : Name). Tells (cause_in e) (record { fault = DuplicateExternName y ExternKind.Import (unwrap_or (last_noted b.imports.noted.items k) n.span) (is_none x.name); span = Some n.span })) r.0 one_told in
+      let one_told = told e (DuplicateExternName (string_bytes m) ExternKind.Import (unwrap_or (last_noted b.imports.noted.items k) n.span) (is_none x.name)) (Some n.span) names in
+      let two = subst (λ (y : Name). Tells (cause_in e) (plainly (DuplicateExternName y ExternKind.Import (unwrap_or (last_noted b.imports.noted.items k) n.span) (is_none x.name)) (Some n.span))) r.0 one_told in
       refused_by (Some c.earlier) (is_extern_name n.string) e c.called refl
-      (subst (λ (o : Option Span). Tells (cause_in e) (record { fault = DuplicateExternName n.string ExternKind.Import (unwrap_or o n.span) (is_none x.name); span = Some n.span })) c.noted_at two)
+      (subst (λ (o : Option Span). Tells (cause_in e) (plainly (DuplicateExternName n.string ExternKind.Import (unwrap_or o n.span) (is_none x.name)) (Some n.span))) c.noted_at two)
   import_refused sound (ImportError.InvalidImportName m y) e r names =
-      let one_told = told e (record { fault = InvalidExternName (string_bytes m) ExternKind.Import; span = Some n.span }) names in
+      let one_told = told e (InvalidExternName (string_bytes m) ExternKind.Import) (Some n.span) names in
       refused_by None false e (none_called g b.ids.noted.items n.string r.1 s.imports b.imports.noted.items said.imports.are) (no_extern_name n.string r.2)
-      (subst (λ (z : Name). Tells (cause_in e) (record { fault = InvalidExternName z ExternKind.Import; span = Some n.span })) r.0 one_told)
+      (subst (λ (z : Name). Tells (cause_in e) (plainly (InvalidExternName z ExternKind.Import) (Some n.span))) r.0 one_told)
   import_refused sound ImportError.Memory e r names = memory_refusal (says_import s x n item) e (no_cause e names)
 
   -- it is there

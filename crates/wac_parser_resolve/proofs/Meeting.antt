@@ -1,7 +1,7 @@
 -- The tests of a target, and what is stated of them.
 use Rattle.std.proofs.lemmas.List.{drop_all}
-use Rattle.std.proofs.Common.{◌≡◌, ◌⊎◌, ◌≤◌, ◌+◌, ℕ, zero, suc, List, [], ◌∷◌, length, drop, Bool, true, false, not, ◌||◌, ◌==◌, Option, Some, None, IsSome, option_map, if◌then◌else◌, Result, Ok, Err, OnOk, slice_get, refl, sym, ap, subst, ◌∙◌, inl, inr}
-use Rattle.std.specs.Prelude.{⊤}
+use Rattle.std.proofs.Common.{◌≡◌, ◌⊎◌, ◌≤◌, ◌+◌, ℕ, zero, suc, List, [], ◌∷◌, length, drop, Bool, true, false, ◌||◌, ◌==◌, Option, Some, None, IsSome, option_map, if◌then◌else◌, Result, Ok, Err, OnOk, slice_get, refl, sym, ap, subst, ◌∙◌, inl, inr}
+use Rattle.std.specs.Prelude.{⊤, option_copied}
 use Rattle.std.specs.Cmp.Lexicographic.{pointwise, bytes_decides}
 use Rattle.wac_types_base.specs.declared.item.ExternKind.{ExternKind}
 use Rattle.wac_types_base.specs.declared.item.ItemKind.{ItemKind}
@@ -16,9 +16,11 @@ use Rattle.wac_types_base.specs.Stated.{Stated, desc, promote, stated_of}
 use Rattle.wac_types_base.proofs.Telling.{promote_stated}
 use Rattle.wac_types_base.proofs.Used.{drop_next}
 use Rattle.wac_types_fit.specs.declared.errors.SubtypeError.{SubtypeError}
-use Rattle.wac_types_fit.specs.Errors.{IfMismatch, refusal, steps}
+use Rattle.wac_types_fit.specs.declared.checker.SubtypeCheck.{SubtypeCheck}
+use Rattle.wac_types_fit.specs.Errors.{IfMismatch, IfSaid, refusal, said, steps, words_of}
+use Rattle.wac_types_fit.specs.Frames.{Disagree}
+use Rattle.wac_types_fit.specs.Words.{Called, CalledUnder}
 use Rattle.wac_types_fit.specs.Trees.{Fit, tree_in}
-use Rattle.wac_composition.specs.Tests.{fits}
 use Rattle.wac_composition.proofs.FitBack.{fits_decides}
 use Rattle.wac_graph_core.specs.Exporting.{import_name_of}
 use Rattle.wac_graph_core.specs.Listing.{import_names, passed_to}
@@ -28,15 +30,19 @@ use Rattle.wac_graph_core.specs.declared.ids.PackageId.{PackageId}
 use Rattle.wac_types_names.specs.Packaged.{Packaged}
 use Rattle.wac_parser_tree.specs.Trees.{Span}
 use Rattle.wac_parser_refusals.specs.declared.refusal.Refusal.{Refusal}
-use Rattle.wac_parser_refusals.specs.Causes.{Answer, Fault, ImportNotInTarget, TargetMismatch, each, pure, ◌>>=◌, ◌>>◌}
+use Rattle.wac_parser_refusals.specs.Causes.{Answer, ImportNotInTarget, TargetMismatch, each, pure, ◌>>=◌, ◌>>◌}
 use Rattle.wac_parser_refusals.specs.Outcomes.{IsHeld, IsRefusal, Refuses}
 use Rattle.wac_parser_refusals.specs.Views.{Names, maybe_at}
-use Rattle.wac_parser_refusals.proofs.Outcomes.{memory_refusal}
+use Rattle.wac_parser_refusals.specs.Sources.{TellsBetween, reported}
+use Rattle.wac_parser_refusals.proofs.Outcomes.{memory_refusal, needs_held, needs_refused, told_between}
+use Rattle.wac_parser_refusals.proofs.Sources.{tells_of}
 use Rattle.wac_parser_declare.proofs.Members.{told}
+use Rattle.wac_parser_resolve.specs.declared.targets.Place.{Place}
 use Rattle.wac_parser_resolve.specs.declared.targets.Target.{Target}
+use Rattle.wac_parser_resolve.specs.Denoting.{fitting}
 use Rattle.wac_parser_resolve.specs.Giving.{gives_of}
 use Rattle.wac_types_base.specs.Parts.{imports_in_world}
-use Rattle.wac_parser_resolve.specs.InTargets.{AreAllNoted, AreInstancesMet, AreStatementsMet, IsAnswerOf, IsTold, all_pass, asked_in, export_at, export_test, filled_test, fit_in, import_test, instance_test, is_passed_in, item_in, lacks_export, node_item, package_imports, passes_or, path_of, statement_by, statement_test, tells_mismatch}
+use Rattle.wac_parser_resolve.specs.InTargets.{AreAllNoted, AreInstancesMet, AreStatementsMet, IsAnswerOf, IsTold, all_pass, asked_in, export_at, export_test, filled_test, TellsMismatch, fit_in, fit_test, import_test, instance_test, is_passed_in, item_in, lacks_export, mismatch_in, mismatched_at, node_item, package_imports, path_of, statement_by, statement_test, way_of}
 use Rattle.wac_parser_resolve.specs.Meeting.{import_met}
 use Rattle.wac_parser_resolve.specs.Targeting.{Gives, IsInstanceMet, IsPassed, IsStatementMet}
 use Rattle.wac_parser_resolve.proofs.TargetMet.{node_package, passed_has}
@@ -64,29 +70,32 @@ ok_has : {A E P : Type 0} (r : Result A E) (x : A) → r ≡ Ok x → OnOk r P �
 ok_has (Ok y) x e p = p
 ok_has (Err f) x e p = absurd (cc e)
 
-pub mismatch_told : (c : Collection) (j k : ItemKind) (r : Result ⊤ SubtypeError) → OnOk r (Fit c j c k) → IfMismatch r (λ ss. Fit c j c k → ⊥) → (o : Option SubtypeError) → IsAnswerOf r o → tells_mismatch c j k o
-mismatch_told c j k r good bad None e = sym (ap not (fit_true c j k (ok_has r tt e good)))
-mismatch_told c j k r good bad (Some SubtypeError.Memory) h = absurd (h.1 refl)
-mismatch_told c j k r good bad (Some (SubtypeError.Mismatch fs a b)) h = sym (ap not (fit_false c j k (bad (steps fs.items) (ap refusal h.0))))
+-- what a check of the two answers
+pub record IsChecked (way : SubtypeCheck) (c : Collection) (j k : ItemKind) (r : Result ⊤ SubtypeError) : Type 0 where
+  pub yes : OnOk r (Fit c j c k)
+  pub no : IfMismatch r (λ ss. Fit c j c k → ⊥)
+  pub frames : IfMismatch r (λ ss. Disagree ss (tree_in c j) (tree_in c k))
+  pub words : IfSaid r (λ ss e f. CalledUnder way (Called c j ss) (Called c k ss) e f)
+
+pub mismatch_told : (way : SubtypeCheck) (c : Collection) (j k : ItemKind) (r : Result ⊤ SubtypeError) → IsChecked way c j k r → (o : Option SubtypeError) → IsAnswerOf r o → TellsMismatch way c j k o
+mismatch_told way c j k r x None e = fit_true c j k (ok_has r tt e x.yes)
+mismatch_told way c j k r x (Some SubtypeError.Memory) h = absurd (h.1 refl)
+mismatch_told way c j k r x (Some (SubtypeError.Mismatch fs a b)) h = (
+  fit_false c j k (x.no (steps fs.items) (ap refusal h.0)),
+  tells_of way c j c k (steps fs.items, (option_copied a, option_copied b)) (x.frames (steps fs.items) (ap refusal h.0)) (x.words (steps fs.items) (option_copied a) (option_copied b) (ap said h.0)),
+)
 
 -- ---- what is refused
 
-not_true : (b : Bool) → false ≡ not b → b ≡ true
-not_true true e = refl
-not_true false e = absurd (cc e)
+module _ (t : Target) (c : Collection) (j k : ItemKind) (p : Place) where
+  pub fit_held : (way : SubtypeCheck) → TellsMismatch way c j k None → IsHeld Passed (fit_test t c j k p) tt
+  fit_held way e = needs_held (Passed tt) (fit_in c j k) _ tt e tt
 
-not_false : (b : Bool) → true ≡ not b → b ≡ false
-not_false true e = absurd (cc e)
-not_false false e = refl
-
-module _ (f : Fault) (s : Option Span) where
-  pub pass_held : (b : Bool) → false ≡ not b → IsHeld Passed (passes_or b f s) tt
-  pass_held true e = tt
-  pass_held false e = absurd (cc e)
-
-  pub pass_refused : (b : Bool) (e : Refusal) → true ≡ not b → Names e (maybe_at f s) → IsRefusal (passes_or b f s) e
-  pass_refused true e h n = absurd (cc h)
-  pass_refused false e h n = told e (record { fault = f; span = s }) n
+  pub fit_refused : (way : SubtypeCheck) (m : SubtypeError) (e : Refusal) → way ≡ way_of p.kind → TellsMismatch way c j k (Some m) → Names e (mismatched_at t p m) → IsRefusal (fit_test t c j k p) e
+  fit_refused way m e turned h n =
+      needs_refused (fit_in c j k) _ e h.0
+      (told_between e (mismatch_in t p) p.span m (way_of p.kind) (stated_of c j) (stated_of c k) n
+      (subst (λ (x : SubtypeCheck). TellsBetween x (stated_of c j) (stated_of c k) (reported (words_of m))) turned h.1))
 
 -- ---- imports
 
@@ -94,13 +103,13 @@ module _ (t : Target) (c : Collection) (n : Name) (k : ItemKind) (s : Option Spa
   pub import_lacks : (e : Refusal) → None ≡ gives_of t n → Names e (maybe_at (ImportNotInTarget n t.path.now.string.now) s) → IsRefusal (import_test t c (asked_in c n k s)) e
   import_lacks e is m =
       subst (λ (o : Option ItemKind). IsRefusal (import_met (path_of t) (asked_in c n k s) (option_map (stated_of c) o)) e) is
-      (told e (record { fault = ImportNotInTarget n t.path.now.string.now; span = s }) m)
+      (told e (ImportNotInTarget n t.path.now.string.now) s m)
 
   pub import_fits : IsAcyclic c → (i : ItemKind) (r : Result ⊤ Refusal) → Some i ≡ gives_of t n → Stands c i
-      → IsTold (passes_or (fit_in c (promoted i) k) (TargetMismatch ExternKind.Import n t.path.now.string.now) s) r → IsTold (import_test t c (asked_in c n k s)) r
+      → IsTold (fitting SubtypeCheck.Contravariant (stated_of c (promoted i)) (stated_of c k) (TargetMismatch ExternKind.Import n t.path.now.string.now) s) r → IsTold (import_test t c (asked_in c n k s)) r
   import_fits a i r is stands h =
       subst (λ (o : Option ItemKind). IsTold (import_met (path_of t) (asked_in c n k s) (option_map (stated_of c) o)) r) is
-      (subst (λ (x : Stated). IsTold (passes_or (fits x (stated_of c k)) (TargetMismatch ExternKind.Import n t.path.now.string.now) s) r) (promote_stated i c a stands) h)
+      (subst (λ (x : Stated). IsTold (fitting SubtypeCheck.Contravariant x (stated_of c k) (TargetMismatch ExternKind.Import n t.path.now.string.now) s) r) (promote_stated i c a stands) h)
 
 pub node_item_is : (g : Graph) (k : ℕ) (i : ItemKind) → IsOfKind g k (λ x. x ≡ i) → node_item g k ≡ stated_of g.types i
 node_item_is g k i h = ap (item_in g) h.there ∙ ap (stated_of g.types) h.kind
@@ -198,9 +207,9 @@ module _ {T : Type 0} (n : Name) (es rest : List (Name × T)) (x : Name × T) (i
 pub has_none : {T : Type 0} (n : Name) (es : List (Name × T)) → es ≡ [] → has_name (names_of es) n ≡ false
 has_none {T} n es is = ap (λ (ys : List (Name × T)). has_name (names_of ys) n) is
 
-pub fit_is : (c : Collection) (j k : ItemKind) → tells_mismatch c j k None → Fit c j c k
+pub fit_is : (way : SubtypeCheck) (c : Collection) (j k : ItemKind) → TellsMismatch way c j k None → Fit c j c k
 unfolding tree_in
-fit_is c j k e = (fits_decides (stated_of c j) (stated_of c k)).0 (not_true (fit_in c j k) e)
+fit_is way c j k e = (fits_decides (stated_of c j) (stated_of c k)).0 e
 
 -- ---- what is passed
 
@@ -245,14 +254,14 @@ module _ (t : Target) (g : Graph) (k : ℕ) (x : NodeData) (at : node_at g k ≡
 
 module _ (t : Target) (g : Graph) (spans : List (ℕ × Span)) (n : Name) (k : ItemKind) where
   pub export_found : (node : ℕ) (i j : ItemKind) (s : Option Span) (r : Result ⊤ Refusal) → Some node ≡ value_at g.exports n → IsOfKind g node (λ x. x ≡ i) → IsAcyclic g.types → Stands g.types k
-      → j ≡ promoted k → s ≡ last_noted spans node → IsTold (passes_or (fit_in g.types i j) (TargetMismatch ExternKind.Export n t.path.now.string.now) s) r → IsTold (export_test t g spans (n, k)) r
+      → j ≡ promoted k → s ≡ last_noted spans node → IsTold (fitting SubtypeCheck.Covariant (stated_of g.types i) (stated_of g.types j) (TargetMismatch ExternKind.Export n t.path.now.string.now) s) r → IsTold (export_test t g spans (n, k)) r
   export_found node i j s r is own a stands to found h =
       let same : stated_of g.types j ≡ promote (stated_of g.types k) = ap (stated_of g.types) to ∙ promote_stated k g.types a stands in
       let f = TargetMismatch ExternKind.Export n t.path.now.string.now in
       subst (λ (o : Option ℕ). IsTold (export_at t g spans (n, k) o) r) is
-      (subst (λ (p : Option Span). IsTold (passes_or (fits (node_item g node) (promote (stated_of g.types k))) f p) r) found
-      (subst (λ (y : Stated). IsTold (passes_or (fits (node_item g node) y) f s) r) same
-      (subst (λ (y : Stated). IsTold (passes_or (fits y (stated_of g.types j)) f s) r) (sym (node_item_is g node i own)) h)))
+      (subst (λ (p : Option Span). IsTold (fitting SubtypeCheck.Covariant (node_item g node) (promote (stated_of g.types k)) f p) r) found
+      (subst (λ (y : Stated). IsTold (fitting SubtypeCheck.Covariant (node_item g node) y f s) r) same
+      (subst (λ (y : Stated). IsTold (fitting SubtypeCheck.Covariant y (stated_of g.types j) f s) r) (sym (node_item_is g node i own)) h)))
 
   pub export_missing : (e : Refusal) (word : Name) → None ≡ value_at g.exports n → word ≡ desc (stated_of g.types k) → Refuses e (lacks_export t n word) t.path.now.span → IsRefusal (export_test t g spans (n, k)) e
   export_missing e word is so h =

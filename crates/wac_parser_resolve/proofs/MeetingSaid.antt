@@ -13,7 +13,7 @@ use Rattle.wac_types_base.specs.Graph.{Among}
 use Rattle.wac_types_base.specs.Implicit as ids
 use Rattle.wac_types_base.specs.Stated.{Stated, desc, exports_of, imports_of, promote, stated_of}
 use Rattle.wac_types_base.proofs.Standing.{world_found}
-use Rattle.wac_composition.specs.Tests.{fits}
+use Rattle.wac_types_fit.specs.declared.checker.SubtypeCheck.{SubtypeCheck}
 use Rattle.wac_graph_core.specs.declared.edge.Edge.{Edge}
 use Rattle.wac_graph_core.specs.Edges.{HasArgument}
 use Rattle.wac_graph_core.specs.Exporting.{import_name_of}
@@ -27,18 +27,19 @@ use Rattle.wac_parser_tree.specs.Trees.{Span}
 use Rattle.wac_parser_tree.specs.declared.import.PackagePath.{PackagePath}
 use Rattle.wac_parser_tree.specs.Views.{view_package_path}
 use Rattle.wac_parser_refusals.specs.declared.refusal.Refusal.{Refusal}
-use Rattle.wac_parser_refusals.specs.Causes.{Answer, Fault, MissingTargetExport, TargetMismatch, TypeCannotBeWritten, each, pure, refuse, unless_clear, ◌>>◌}
+use Rattle.wac_parser_refusals.specs.Causes.{Answer, Fault, MissingTargetExport, TargetMismatch, TypeCannotBeWritten, each, pure, refuse, ◌>>◌}
 use Rattle.wac_parser_refusals.specs.Outcomes.{IsHeld, IsMemory, IsRefusal}
-use Rattle.wac_parser_refusals.specs.Views.{Names, anywhere, cause_in, maybe_at}
+use Rattle.wac_parser_refusals.specs.Views.{Names, anywhere, cause_in}
 use Rattle.wac_parser_refusals.proofs.Outcomes.{memory_refusal}
 use Rattle.wac_parser_declare.proofs.Exports.{component_imports}
 use Rattle.wac_parser_declare.proofs.Members.{told}
 use Rattle.wac_parser_resolve.specs.declared.targets.Target.{Target}
 use Rattle.wac_parser_resolve.specs.Ascribing.{Bound, Denoted, Import, Made, State}
+use Rattle.wac_parser_resolve.specs.Denoting.{fitting}
 use Rattle.wac_parser_resolve.specs.Giving.{gives_of}
 use Rattle.wac_parser_resolve.specs.Holding.{ArePassed, HasItem, InTurn, IsMade, Says}
 use Rattle.wac_types_base.specs.Parts.{imports_in_world}
-use Rattle.wac_parser_resolve.specs.InTargets.{IsFaultOf, IsTargetFor, IsTold, all_pass, export_at, export_test, filled_test, import_test, instance_test, is_passed_in, item_in, node_item, package_imports, passes_or, path_of, statement_by, statement_test}
+use Rattle.wac_parser_resolve.specs.InTargets.{IsFaultOf, IsTargetFor, IsTold, all_pass, export_at, export_test, filled_test, import_test, instance_test, is_passed_in, item_in, node_item, package_imports, path_of, statement_by, statement_test}
 use Rattle.wac_parser_resolve.specs.Meeting as stated
 use Rattle.wac_parser_resolve.specs.Meeting.{Wanted, refuse_at, uses_are_named, wanted, wanted_by_instance, wanted_by_statement, export_met, import_met}
 use Rattle.wac_parser_resolve.specs.Said.{AreAsked, AreExported, IsAsked}
@@ -185,10 +186,6 @@ module _ (g : Graph) (is : IsGraph g) (acyclic : IsAcyclic g.types) (tg : Target
 
   -- ---- exports
 
-  clear_same : (b : Bool) (f : Fault) (u : Span) → unless_clear (not b) f u ≡ passes_or b f (Some u)
-  clear_same true f u = refl
-  clear_same false f u = refl
-
   module _ (ms : List ℕ) (apart : AreDistinct ms) (spans : List (ℕ × Span)) (exported : AreExported g ms spans s.exports) where
     exports_by : (e : Name × ItemKind) (o : Option Bound) (q : Option ℕ) → value_at s.exports e.0 ≡ o → AreFound g ms o q → export_met s p e.0 (stated_of g.types e.1) o ≡ export_at tg g spans e q
     exports_by e None None at f =
@@ -198,10 +195,9 @@ module _ (g : Graph) (is : IsGraph g) (acyclic : IsAcyclic g.types) (tg : Target
     exports_by e (Some b) (Some k) at f =
         let x = promote (stated_of g.types e.1) in
         let c : Fault = TargetMismatch ExternKind.Export e.0 tg.path.now.string.now in
-        ap (λ (y : t.PackagePath). unless_clear (not (fits b.denoted.item x)) (TargetMismatch ExternKind.Export e.0 y.string) (export_span s b)) path
-        ∙ clear_same (fits b.denoted.item x) c (export_span s b)
-        ∙ ap (λ (y : Stated). passes_or (fits y x) c (Some (export_span s b))) (sym (item_same k b.denoted.item f.item))
-        ∙ ap (passes_or (fits (node_item g k) x) c) (sym (noted_span g is ms apart s spans exported.noted e.0 b at k f))
+        ap (λ (y : t.PackagePath). fitting SubtypeCheck.Covariant b.denoted.item x (TargetMismatch ExternKind.Export e.0 y.string) (Some (export_span s b))) path
+        ∙ ap (λ (y : Stated). fitting SubtypeCheck.Covariant y x c (Some (export_span s b))) (sym (item_same k b.denoted.item f.item))
+        ∙ ap (fitting SubtypeCheck.Covariant (node_item g k) x c) (sym (noted_span g is ms apart s spans exported.noted e.0 b at k f))
 
     exports_same : (es : List (Name × ItemKind)) → all_pass (λ e. export_met s p e.0 e.1 (value_at s.exports e.0)) (with_values (stated_of g.types) es) ≡ all_pass (export_test tg g spans) es
     exports_same [] = refl
@@ -226,7 +222,7 @@ module _ (g : Graph) (acyclic : IsAcyclic g.types) (w : WorldId) (x : World) (at
 
       by : (b : Bool) → b ≡ false → IsRefusal ((if b then pure tt else refuse_at (TypeCannotBeWritten p.string) None) >> rest) e
       by true n = absurd (cc n)
-      by false n = told e (record { fault = TypeCannotBeWritten p.string; span = None }) named
+      by false n = told e (TypeCannotBeWritten p.string) None named
 
   pub fault_refused : (fault : TargetError) (path : PackagePath) (e : Refusal) → p ≡ view_package_path path → (fault ≡ TargetError.UsedWithoutIdentifier → ids.by_identifier g.types [] (ids.implicit_interfaces g.types x) ≡ None)
       → IsFaultOf path fault e → IsRefusal (stated.target_met s p target) e

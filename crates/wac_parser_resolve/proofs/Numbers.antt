@@ -5,7 +5,8 @@ use Rattle.std.specs.Cmp.Lexicographic.{pointwise}
 use Rattle.std.proofs.Common.{◌≡◌, ℕ, zero, suc, ◌<◌, ◌≤◌, List, [], ◌∷◌, ◌++◌, Bool, true, false, Option, Some, None, ◌⊎◌, inl, inr, length, refl, sym, ap, subst, ◌∙◌, arith}
 use Rattle.wac_types_base.specs.Entries.{Name, value_at}
 use Rattle.wac_types_base.specs.Graph.{Among}
-use Rattle.wac_types_base.proofs.Lists.{first_of}
+use Rattle.std.specs.Option.{option_or}
+use Rattle.wac_types_base.proofs.Lists.{value_both}
 use Rattle.wac_parser_resolve.specs.Ascribing.{Origin, imported, instance, projected, defined}
 
 -- each instance that the origin names is below this number
@@ -69,22 +70,14 @@ module _ {A : Type 0} where
   slice_there (y ∷ xs) zero h = (y, refl)
   slice_there (y ∷ xs) (suc i) h = slice_there xs i (omega (arith, h))
 
-value_append : {V : Type 0} (xs : List (Name × V)) (m : Name) (v : V) (n : Name) → value_at (xs ++ (m, v) ∷ []) n ≡ first_of (value_at xs n) (value_at ((m, v) ∷ []) n)
-value_append [] m v n = refl
-value_append (x ∷ xs) m v n = go (value_append xs m v n) (pointwise ◌==◌ n x.0)
-  where
-    go : value_at (xs ++ (m, v) ∷ []) n ≡ first_of (value_at xs n) (value_at ((m, v) ∷ []) n) → (b : Bool) → (if b then Some x.1 else value_at (xs ++ (m, v) ∷ []) n) ≡ first_of (if b then Some x.1 else value_at xs n) (value_at ((m, v) ∷ []) n)
-    go rest true = refl
-    go rest false = rest
-
 -- what holds of each value under its name holds with one more
 pub value_more : {V : Type 0} (P : V → Type 0) (xs : List (Name × V)) (m : Name) (v : V) → ((n : Name) (w : V) → value_at xs n ≡ Some w → P w) → P v → (n : Name) (w : V) → value_at (xs ++ (m, v) ∷ []) n ≡ Some w → P w
-value_more P xs m v h p n w e = go (value_at xs n) refl (sym (value_append xs m v n) ∙ e)
+value_more P xs m v h p n w e = go (value_at xs n) refl (sym (value_both xs ((m, v) ∷ []) n) ∙ e)
   where
     last : (b : Bool) → (if b then Some v else None) ≡ Some w → P w
     last true d = subst P (same_Some _ _ d) p
     last false d = absurd (none-some _ d)
 
-    go : (o : Option _) → value_at xs n ≡ o → first_of o (value_at ((m, v) ∷ []) n) ≡ Some w → P w
+    go : (o : Option _) → value_at xs n ≡ o → option_or o (value_at ((m, v) ∷ []) n) ≡ Some w → P w
     go (Some u) q d = subst P (same_Some _ _ d) (h n u q)
     go None q d = last (pointwise ◌==◌ n m) d

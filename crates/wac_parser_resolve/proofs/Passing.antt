@@ -1,6 +1,6 @@
 -- Arguments that are passed to the instance that was made last.
-use Rattle.std.proofs.Common.{◌≡◌, ◌⊎◌, ◌==◌, ℕ, List, [], ◌∷◌, ◌++◌, Bool, true, false, not, Option, Some, None, IsSome, is_some, inl, inr, refl, sym, ap, subst, ◌∙◌, if◌then◌else◌}
-use Rattle.std.specs.Prelude.{⊤, slice_get, option_map, string_bytes}
+use Rattle.std.proofs.Common.{◌≡◌, ◌⊎◌, ◌==◌, ℕ, List, [], ◌∷◌, ◌++◌, Bool, true, false, Option, Some, None, IsSome, is_some, inl, inr, refl, sym, ap, subst, ◌∙◌, if◌then◌else◌}
+use Rattle.std.specs.Prelude.{⊤, slice_get, option_copied, option_map, string_bytes}
 use Rattle.std.specs.FinMap as map
 use Rattle.std.specs.Cmp.Lexicographic.{pointwise, bytes_decides}
 use Rattle.std.proofs.lemmas.Option.{same_Some}
@@ -20,28 +20,35 @@ use Rattle.wac_types_base.proofs.GraphLemmas.{value_of}
 use Rattle.wac_types_base.proofs.Standing.{world_found}
 use Rattle.wac_types_names.specs.Packaged.{Packaged}
 use Rattle.wac_types_names.specs.Keys.{Key}
+use Rattle.wac_types_fit.specs.declared.checker.SubtypeCheck.{SubtypeCheck}
 use Rattle.wac_types_fit.specs.declared.errors.SubtypeError.{SubtypeError}
+use Rattle.wac_types_fit.specs.Errors.{steps, words_of}
+use Rattle.wac_types_fit.specs.Frames.{Step}
 use Rattle.wac_types_fit.specs.Trees.{Fit, tree_in}
 use Rattle.wac_composition.specs.Tests.{fits}
 use Rattle.wac_composition.proofs.FitBack.{fits_decides}
-use Rattle.wac_composition.proofs.KeptFits.{value_append}
+use Rattle.wac_types_base.proofs.Lists.{value_append}
 use Rattle.wac_graph_core.specs.declared.edge.Label.{Label}
 use Rattle.wac_graph_core.specs.Nodes.{NodeData, Role}
 use Rattle.wac_graph_core.specs.Edges.{HasAlias, HasArgument, alias_edge, argument_edge}
 use Rattle.wac_graph_core.specs.Graph.{Graph, IsArgument, IsGraph, imported_in, instantiated, item_import, node_at, passed, passed_as}
 use Rattle.wac_graph_core.specs.Steps.{AddsArgument, SetsArgument}
-use Rattle.wac_graph_core.specs.Refusals.{IsOpen, LacksArgument, NodeMismatches}
+use Rattle.wac_graph_core.specs.Refusals.{IsOpen, LacksArgument, NodeMismatches, StatedMismatches}
 use Rattle.wac_graph_core.proofs.EdgeSteps.{edge_from, edge_to, edge_label, argument_name}
 use Rattle.wac_parser_tree.specs.Trees.{Span}
 use Rattle.wac_parser_refusals.specs.declared.refusal.Refusal.{Refusal}
-use Rattle.wac_parser_refusals.specs.Causes.{◌>>=◌, MismatchedInstantiationArg, MissingComponentImport, present, unless_clear}
+use Rattle.wac_parser_refusals.specs.Causes.{Answer, ◌>>=◌, MismatchedInstantiationArg, MissingComponentImport, present}
 use Rattle.wac_parser_refusals.specs.Outcomes.{IsHeld, IsRefusal, Refuses}
+use Rattle.wac_parser_refusals.specs.Sources.{TellsBetween, TellsOf, reported}
+use Rattle.wac_parser_refusals.specs.Views.{Names, checked_at}
+use Rattle.wac_parser_refusals.proofs.Outcomes.{needs_held, needs_refused, told_between}
+use Rattle.wac_parser_refusals.proofs.Sources.{tells_of}
 use Rattle.wac_parser_declare.specs.Holding.{Holds}
 use Rattle.wac_parser_declare.proofs.Exports.{component_imports}
 use Rattle.wac_parser_resolve.specs.declared.arguments.Given.{Given}
 use Rattle.wac_parser_resolve.specs.Ascribing.{Origin, imported, instance, projected, defined, Denoted, Made, State}
 use Rattle.wac_parser_resolve.specs.Denoting as stated
-use Rattle.wac_parser_resolve.specs.Denoting.{argument_fits, compared_by}
+use Rattle.wac_parser_resolve.specs.Denoting.{argument_fits, compared_by, fitting}
 use Rattle.wac_parser_resolve.specs.Holding.{Denotes, InTurn, IsGiven, IsMade}
 use Rattle.wac_parser_resolve.specs.InInstances.{SaysMade, with_argument}
 use Rattle.wac_parser_resolve.specs.Later.{Later}
@@ -128,23 +135,35 @@ module _ (g : Graph) (is : IsGraph g) (ms : List ℕ) (d : Denoted) (a : ℕ) (d
 -- ---- one argument
 
 module _ (k : Key) (w : Stated) (a : stated.Given) where
+  abbrev offered : Stated
+  offered = compared_by a.denoted.origin a.denoted.item
+
+  -- the test against what the world imports under the name
+  abbrev tested : Option Stated → Answer ⊤
+  tested o = present o (MissingComponentImport k.0 a.name) a.span >>= λ y. fitting SubtypeCheck.Covariant offered y (MismatchedInstantiationArg a.name) (Some a.span)
+
   -- what fits passes
-  pub passes_by : {B : Type 0} (H : B → Type 0) (o : Option Stated) (x : Stated) (v : B) → o ≡ Some x → fits (compared_by a.denoted.origin a.denoted.item) x ≡ true → H v
-      → IsHeld (λ u b. H b) (present o (MissingComponentImport k.0 a.name) a.span >>= λ y. unless_clear (not (fits (compared_by a.denoted.origin a.denoted.item) y)) (MismatchedInstantiationArg a.name) a.span) v
-  passes_by H o x v at fit h =
-      subst (λ (p : Option Stated). IsHeld (λ u b. H b) (present p (MissingComponentImport k.0 a.name) a.span >>= λ y. unless_clear (not (fits (compared_by a.denoted.origin a.denoted.item) y)) (MismatchedInstantiationArg a.name) a.span) v) (sym at)
-      (subst (λ (b : Bool). IsHeld (λ u c. H c) (unless_clear (not b) (MismatchedInstantiationArg a.name) a.span) v) (sym fit) h)
+  pub passes_by : {B : Type 0} (H : B → Type 0) (o : Option Stated) (x : Stated) (v : B) → o ≡ Some x → fits offered x ≡ true → H v → IsHeld (λ u b. H b) (tested o) v
+  passes_by H o x v at fit h = subst (λ (p : Option Stated). IsHeld (λ u b. H b) (tested p) v) (sym at) (needs_held H (fits offered x) _ v fit h)
 
-  pub lacks_by : (o : Option Stated) (e : Refusal) → o ≡ None → Refuses e (MissingComponentImport k.0 a.name) a.span
-      → IsRefusal (present o (MissingComponentImport k.0 a.name) a.span >>= λ y. unless_clear (not (fits (compared_by a.denoted.origin a.denoted.item) y)) (MismatchedInstantiationArg a.name) a.span) e
-  lacks_by o e at r =
-      subst (λ (p : Option Stated). IsRefusal (present p (MissingComponentImport k.0 a.name) a.span >>= λ y. unless_clear (not (fits (compared_by a.denoted.origin a.denoted.item) y)) (MismatchedInstantiationArg a.name) a.span) e) (sym at) r
+  pub lacks_by : (o : Option Stated) (e : Refusal) → o ≡ None → Refuses e (MissingComponentImport k.0 a.name) a.span → IsRefusal (tested o) e
+  lacks_by o e at r = subst (λ (p : Option Stated). IsRefusal (tested p) e) (sym at) r
 
-  pub differs_by : (o : Option Stated) (x : Stated) (e : Refusal) → o ≡ Some x → fits (compared_by a.denoted.origin a.denoted.item) x ≡ false → Refuses e (MismatchedInstantiationArg a.name) a.span
-      → IsRefusal (present o (MissingComponentImport k.0 a.name) a.span >>= λ y. unless_clear (not (fits (compared_by a.denoted.origin a.denoted.item) y)) (MismatchedInstantiationArg a.name) a.span) e
-  differs_by o x e at fit r =
-      subst (λ (p : Option Stated). IsRefusal (present p (MissingComponentImport k.0 a.name) a.span >>= λ y. unless_clear (not (fits (compared_by a.denoted.origin a.denoted.item) y)) (MismatchedInstantiationArg a.name) a.span) e) (sym at)
-      (subst (λ (b : Bool). IsRefusal (unless_clear (not b) (MismatchedInstantiationArg a.name) a.span) e) (sym fit) r)
+  pub differs_by : (o : Option Stated) (x : Stated) (e : Refusal) (m : SubtypeError) → o ≡ Some x → fits offered x ≡ false → TellsBetween SubtypeCheck.Covariant offered x (reported (words_of m))
+      → Names e (checked_at (MismatchedInstantiationArg a.name) (Some a.span) m) → IsRefusal (tested o) e
+  differs_by o x e m at fit tells named =
+      subst (λ (p : Option Stated). IsRefusal (tested p) e) (sym at)
+      (needs_refused (fits offered x) _ e fit (told_between e (MismatchedInstantiationArg a.name) (Some a.span) m SubtypeCheck.Covariant offered x named tells))
+
+-- the checker's fault tells of what is passed and what is asked
+mismatch_tells : (t : Stated) (c : Collection) (item : ItemKind) (fault : SubtypeError) → StatedMismatches t c item fault → TellsBetween SubtypeCheck.Covariant t (stated_of c item) (reported (words_of fault))
+mismatch_tells t c item SubtypeError.Memory sm = absurd (cc sm.differ.are)
+mismatch_tells t c item (SubtypeError.Mismatch fs a b) sm =
+    let same : steps fs.items ≡ sm.differ.steps = same_Some _ _ sm.differ.are in
+    let words = sm.differ.words (option_copied a) (option_copied b) (ap (λ (ss : List Step). Some (ss, (option_copied a, option_copied b))) same) in
+    subst (λ (x : Stated). TellsOf SubtypeCheck.Covariant x (stated_of c item) (steps fs.items, (option_copied a, option_copied b))) sm.is
+    (subst (λ (ss : List Step). TellsOf SubtypeCheck.Covariant (stated_of sm.types sm.given) (stated_of c item) (ss, (option_copied a, option_copied b))) (sym same)
+    (tells_of SubtypeCheck.Covariant sm.types sm.given c item (sm.differ.steps, (option_copied a, option_copied b)) sm.differ.disagree words))
 
 fit_back : (c : Collection) (k : ItemKind) (d : Collection) (item : ItemKind) → Fits (tree (stated_of c k)) (tree (stated_of d item)) → Fit c k d item
 unfolding tree_in
@@ -191,7 +210,7 @@ module _ (g : Graph) (is : IsGraph g) (acyclic : IsAcyclic g.types) (noted : Lis
       (subst (λ (x : Name). Refuses e (MissingComponentImport m.key.0 x) one.span) given.name
       (subst (λ (x : Name). Refuses e (MissingComponentImport x n) one.span) named r)))
 
-  pub differs : (item : ItemKind) (fault : SubtypeError) (e : Refusal) → IsOpen g i n item → NodeMismatches g one.node item fault → Refuses e (MismatchedInstantiationArg n) one.span
+  pub differs : (item : ItemKind) (fault : SubtypeError) (e : Refusal) → IsOpen g i n item → NodeMismatches g one.node item fault → Names e (checked_at (MismatchedInstantiationArg n) (Some one.span) fault)
       → IsRefusal (argument_fits m.key m.world tt a) e
   differs item fault e left mis r =
       let is_passed : passed g.types mis.node ≡ compared_by a.denoted.origin a.denoted.item = passed_is g is ms a.denoted one.node given.denotes mis.node mis.there in
@@ -199,9 +218,10 @@ module _ (g : Graph) (is : IsGraph g) (acyclic : IsAcyclic g.types) (noted : Lis
       let apart : fits (compared_by a.denoted.origin a.denoted.item) (stated_of g.types item) ≡ false =
       false_from_ne_true _ (λ t. sm.differ.differ (fit_back sm.types sm.given g.types item
       (subst (λ (x : Stated). Fits (tree x) (tree (stated_of g.types item))) (sym is_passed ∙ sym sm.is) ((fits_decides (compared_by a.denoted.origin a.denoted.item) (stated_of g.types item)).0 t)))) in
-      differs_by m.key m.world a (value_at (imports_of m.world) a.name) (stated_of g.types item) e (import_is item left.is) apart
-      (subst (λ (x : Span). Refuses e (MismatchedInstantiationArg a.name) x) given.span
-      (subst (λ (x : Name). Refuses e (MismatchedInstantiationArg x) one.span) given.name r))
+      differs_by m.key m.world a (value_at (imports_of m.world) a.name) (stated_of g.types item) e fault (import_is item left.is) apart
+      (subst (λ (x : Stated). TellsBetween SubtypeCheck.Covariant x (stated_of g.types item) (reported (words_of fault))) is_passed (mismatch_tells (passed g.types mis.node) g.types item fault sm))
+      (subst (λ (x : Span). Names e (checked_at (MismatchedInstantiationArg a.name) (Some x) fault)) given.span
+      (subst (λ (x : Name). Names e (checked_at (MismatchedInstantiationArg x) (Some one.span) fault)) given.name r))
 
   -- ---- an argument more
 

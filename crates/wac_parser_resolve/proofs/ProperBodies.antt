@@ -8,7 +8,7 @@ use Rattle.wac_types_base.specs.declared.item.ExternKind.{ExternKind}
 use Rattle.wac_types_base.specs.Entries.{Name, value_at}
 use Rattle.wac_types_base.specs.Collection as s
 use Rattle.wac_types_base.specs.Stated.{Stated, Kind, IsFunction, IsInstance, IsComponent, IsModule, IsValue, IsResource, IsFunctionType, IsValueType, IsInterface, IsWorld, IsModuleType, kind_of, desc, untyped, as_type, own, leaf, Used, interface_of, world_of, exports_of, imports_of, identifier_of, is_interface}
-use Rattle.wac_types_base.proofs.Lists.{from_filtered}
+use Rattle.wac_types_base.proofs.Lists.{from_filtered, value_both}
 use Rattle.wac_types_names.specs.Keys.{Key, same_key}
 use Rattle.wac_parser_tree.specs.Trees as t
 use Rattle.wac_parser_tree.specs.Trees.{Span}
@@ -237,14 +237,6 @@ pub inline_proper : (g : Context) (d : t.InlineInterface) (y : Stated) → Conte
 inline_proper g d y h e = interface_body_proper g None None d.items y h e
 
 -- ---- worlds
-
-value_both : {V : Type 0} (xs ys : List (Name × V)) (n : Name) → value_at (xs ++ ys) n ≡ option_or (value_at xs n) (value_at ys n)
-value_both [] ys n = refl
-value_both (x ∷ xs) ys n = go (value_both xs ys n) (pointwise ◌==◌ n x.0)
-  where
-    go : value_at (xs ++ ys) n ≡ option_or (value_at xs n) (value_at ys n) → (b : Bool) → (if b then Some x.1 else value_at (xs ++ ys) n) ≡ option_or (if b then Some x.1 else value_at xs n) (value_at ys n)
-    go rest true = refl
-    go rest false = rest
 
 both_scopes : (ns ms : Scope) → ScopeProper ns → ScopeProper ms → ScopeProper (ns ++ ms)
 both_scopes ns ms h k n m e = go (value_at ns n) refl (sym (value_both ns ms n) ∙ e)

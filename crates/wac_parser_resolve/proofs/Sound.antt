@@ -15,7 +15,7 @@ use Rattle.wac_composition.specs.Tests.{fits}
 use Rattle.wac_parser_tree.specs.Trees as t
 use Rattle.wac_parser_tree.specs.Trees.{Span}
 use Rattle.wac_parser_refusals.specs.declared.error.InstanceOperation.{InstanceOperation}
-use Rattle.wac_parser_refusals.specs.Causes.{Answer, Fault, ◌>>◌, pure, unless_clear, present, each, UndefinedName, UnknownPackage, MissingComponentImport, MismatchedInstantiationArg, FillArgumentNotLast, DuplicateInstantiationArg, InvalidExternName, ExportRequiresAs, NotAnInstance}
+use Rattle.wac_parser_refusals.specs.Causes.{Answer, Cause, Fault, ◌>>◌, pure, unless_clear, needs, present, each, UndefinedName, UnknownPackage, MissingComponentImport, FillArgumentNotLast, DuplicateInstantiationArg, InvalidExternName, ExportRequiresAs, NotAnInstance}
 use Rattle.wac_parser_declare.specs.Packages.{Content}
 use Rattle.wac_parser_declare.specs.Scope.{package_under, bind}
 use Rattle.wac_parser_declare.specs.Worlds.{type_statement}
@@ -115,9 +115,9 @@ pub clear_is : {A : Type 0} (b : Bool) (f : Fault) (s : Span) (q : Answer A) (r 
 clear_is true f s q r e = absurd (err_ok _ r e)
 clear_is false f s q r e = refl
 
-clear_alone : (b : Bool) (f : Fault) (s : Span) → Ok tt ≡ unless_clear b f s → b ≡ false
-clear_alone true f s e = absurd (err_ok _ tt e)
-clear_alone false f s e = refl
+needs_alone : (b : Bool) (c : Cause) → Ok tt ≡ needs b c → b ≡ true
+needs_alone true c e = refl
+needs_alone false c e = absurd (err_ok _ tt e)
 
 not_false : (b : Bool) → not b ≡ false → b ≡ true
 not_false true e = refl
@@ -272,7 +272,7 @@ module _ (ps : Packages) where
       let y = ok_of (present (value_at (imports_of w) a.name) (MissingComponentImport k.0 a.name) a.span) _ tt e in
       let is : y.0 ≡ x = same_Some _ _ (sym (present_is (value_at (imports_of w) a.name) (MissingComponentImport k.0 a.name) a.span y.0 (sym y.1)) ∙ v) in
       subst (λ z. fits (compared_by a.denoted.origin a.denoted.item) z ≡ true) is
-      (not_false (fits (compared_by a.denoted.origin a.denoted.item) y.0) (clear_alone (not (fits (compared_by a.denoted.origin a.denoted.item) y.0)) (MismatchedInstantiationArg a.name) a.span y.2))
+      (needs_alone (fits (compared_by a.denoted.origin a.denoted.item) y.0) _ y.2)
 
   all_fit : (k : Key) (w : Stated) (gs : List Given) (u : ⊤) → Ok u ≡ each (argument_fits k w) tt gs → (a : Given) → Among a gs → IsFitting w a
   all_fit k w [] u e a m = absurd m

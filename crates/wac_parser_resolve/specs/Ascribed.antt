@@ -10,7 +10,7 @@ use Rattle.wac_composition.specs.Conflicts as cause
 use Rattle.wac_composition.specs.Conflicts.{first_cause, name_cause}
 use Rattle.wac_parser_tree.specs.Trees as t
 use Rattle.wac_parser_tree.specs.Trees.{Span}
-use Rattle.wac_parser_refusals.specs.Causes.{Answer, Cause, ◌>>=◌, ◌>>◌, pure, ImportConflict, ExplicitImportConflict, InstantiationArgMergeFailure, TypeCannotBeWritten, ValidationFailure}
+use Rattle.wac_parser_refusals.specs.Causes.{Answer, Cause, ◌>>=◌, ◌>>◌, pure, ImportConflict, ExplicitImportConflict, InstantiationArgMergeFailure, TypeCannotBeWritten, ValidationFailure, plainly}
 use Rattle.wac_parser_declare.specs.Packages.{Content}
 use Rattle.wac_parser_resolve.specs.Ascribing.{Origin, imported, instance, projected, defined, Denoted, Made, Import, Bound, State, own_name}
 use Rattle.wac_parser_resolve.specs.Meeting.{resolved}
@@ -87,14 +87,14 @@ asker_key a = ([], None)
 
 abbrev pub cause_said : cause.Cause Asker → Cause
 cause_said (cause.ImplicitImport n i f) =
-    record { fault = ImportConflict n (asker_key f) (span_or_none (asker_span f)); span = asker_span i }
+    plainly (ImportConflict n (asker_key f) (span_or_none (asker_span f))) (asker_span i)
 cause_said (cause.ExplicitImport n a b) =
-    record { fault = ExplicitImportConflict n (span_or_none (asker_span a)); span = asker_span b }
+    plainly (ExplicitImportConflict n (span_or_none (asker_span a))) (asker_span b)
 cause_said (cause.ImportTypes n a b) =
-    record { fault = InstantiationArgMergeFailure n (span_or_none (merge_span a)); span = merge_span b }
-cause_said (cause.Unwritable n) = record { fault = TypeCannotBeWritten n; span = None }
-cause_said (cause.ImportNames m n) = record { fault = ValidationFailure ExternKind.Import m n; span = None }
-cause_said (cause.ExportNames m n) = record { fault = ValidationFailure ExternKind.Export m n; span = None }
+    plainly (InstantiationArgMergeFailure n (span_or_none (merge_span a))) (merge_span b)
+cause_said (cause.Unwritable n) = plainly (TypeCannotBeWritten n) None
+cause_said (cause.ImportNames m n) = plainly (ValidationFailure ExternKind.Import m n) None
+cause_said (cause.ExportNames m n) = plainly (ValidationFailure ExternKind.Export m n) None
 
 abbrev pub unless_cause : Option (cause.Cause Asker) → Answer ⊤
 unless_cause None = pure tt

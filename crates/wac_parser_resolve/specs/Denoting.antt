@@ -4,6 +4,7 @@ use Rattle.std.specs.Option.{option_or}
 use Rattle.wac_types_base.specs.Entries.{Name, value_at, names_of, has_name}
 use Rattle.wac_types_base.specs.Stated.{Stated, Kind, IsInstance, kind_of, desc, exports_of, imports_of, identifier_of, instance_type}
 use Rattle.wac_types_names.specs.Keys.{Key}
+use Rattle.wac_types_fit.specs.declared.checker.SubtypeCheck.{SubtypeCheck}
 use Rattle.wac_composition.specs.Tests.{fits}
 use Rattle.wac_composition.specs.Classes.{is_instance_kind}
 use Rattle.wac_types_written.specs.Written.{written_definition}
@@ -11,9 +12,10 @@ use Rattle.wac_parser_tree.specs.Trees as t
 use Rattle.wac_parser_tree.specs.Trees.{Span}
 use Rattle.wac_parser_tree.specs.Accessors.{argument_name_span as argument_span, postfix_expr_span as postfix_span, primary_expr_span as primary_span}
 use Rattle.wac_parser_refusals.specs.declared.error.InstanceOperation.{InstanceOperation}
-use Rattle.wac_parser_refusals.specs.Causes.{Answer, ◌>>=◌, ◌>>◌, pure, refuse, unless_clear, present, each}
+use Rattle.wac_parser_refusals.specs.Causes.{Answer, Fault, ◌>>=◌, ◌>>◌, pure, refuse, unless_clear, needs, present, each}
 use Rattle.wac_parser_refusals.specs.Causes.{UnknownPackage, NotAnInstance, MissingInstanceExport, MissingComponentImport}
 use Rattle.wac_parser_refusals.specs.Causes.{MismatchedInstantiationArg, DuplicateInstantiationArg, MissingInstantiationArg, FillArgumentNotLast, SpreadInstantiationNoMatch}
+use Rattle.wac_parser_refusals.specs.Sources.{between}
 use Rattle.wac_parser_declare.specs.Scope.{world_of_package}
 use Rattle.wac_parser_resolve.specs.Matching.{matched}
 use Rattle.wac_parser_resolve.specs.Ascribing.{Origin, instance, defined, Denoted, Made, State, denoted_by, projection, own_name, speak_of, worlds_of}
@@ -112,6 +114,10 @@ spreads_of (t.argument a as_) = spreads_of as_
 
 -- ---- the instance
 
+-- what is given fits what is asked; else the error tells where they disagree, by the direction of the check
+abbrev pub fitting : SubtypeCheck → Stated → Stated → Fault → Option Span → Answer ⊤
+fitting way given asked f s = needs (fits given asked) (record { fault = f; span = s; source = between way given asked })
+
 -- a definition is compared as it is written
 abbrev pub compared_by : Origin → Stated → Stated
 compared_by (defined n y) x = written_definition x
@@ -121,7 +127,7 @@ compared_by o x = x
 abbrev pub argument_fits : Key → Stated → ⊤ → Given → Answer ⊤
 argument_fits k w u a = do
   x ← present (value_at (imports_of w) a.name) (MissingComponentImport k.0 a.name) a.span
-  unless_clear (not (fits (compared_by a.denoted.origin a.denoted.item) x)) (MismatchedInstantiationArg a.name) a.span
+  fitting SubtypeCheck.Covariant (compared_by a.denoted.origin a.denoted.item) x (MismatchedInstantiationArg a.name) (Some a.span)
 
 abbrev pub none_missing : t.PackageName → Option Name → Answer ⊤
 none_missing p None = pure tt

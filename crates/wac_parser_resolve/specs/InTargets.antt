@@ -1,6 +1,6 @@
 -- What is answered where a graph is tested against a target: what is stated of the nodes that are noted, in order, or the first
 -- cause.
-use Rattle.std.specs.Prelude.{◌≡◌, ℕ, true, Bool, not, List, [], map, Option, Some, None, is_some, option_map, slice_get, Result, Ok, Err, ⊤, IsSome, if◌then◌else◌}
+use Rattle.std.specs.Prelude.{◌≡◌, ℕ, true, false, Bool, List, [], map, Option, Some, None, option_map, slice_get, Result, Ok, Err, ⊤, IsSome, if◌then◌else◌}
 use Rattle.wac_types_base.specs.Parts.{imports_in_world}
 use Rattle.wac_types_base.specs.declared.ids.WorldId.{WorldId}
 use Rattle.wac_types_base.specs.declared.item.ExternKind.{ExternKind}
@@ -12,7 +12,9 @@ use Rattle.wac_types_base.specs.Record.{Collection}
 use Rattle.wac_types_base.specs.Entries.{Name, has_name, names_of, value_at, with_values}
 use Rattle.wac_types_base.specs.Graph.{Among}
 use Rattle.wac_types_base.specs.Stated.{Stated, desc, exports_of, promote, stated_in, stated_of}
+use Rattle.wac_types_fit.specs.declared.checker.SubtypeCheck.{SubtypeCheck}
 use Rattle.wac_types_fit.specs.declared.errors.SubtypeError.{SubtypeError}
+use Rattle.wac_types_fit.specs.Errors.{words_of}
 use Rattle.wac_types_names.specs.Packaged.{Packaged}
 use Rattle.wac_composition.specs.Tests.{fits}
 use Rattle.wac_graph_core.specs.Nodes.{NodeData}
@@ -29,7 +31,8 @@ use Rattle.wac_parser_tree.specs.declared.import.PackagePath.{PackagePath}
 use Rattle.wac_parser_tree.specs.Views.{view_package_name, view_package_path, view_statement}
 use Rattle.wac_parser_refusals.specs.declared.refusal.Refusal.{Refusal}
 use Rattle.wac_parser_refusals.specs.Causes.{Answer, Cause, Fault, ◌>>=◌, each, pure, refuse, ImportNotInTarget, MissingTargetExport, TargetMismatch, TypeCannotBeWritten}
-use Rattle.wac_parser_refusals.specs.Views.{Names, anywhere, maybe_at}
+use Rattle.wac_parser_refusals.specs.Sources.{TellsBetween, reported}
+use Rattle.wac_parser_refusals.specs.Views.{Names, anywhere, checked_at, maybe_at}
 use Rattle.wac_parser_refusals.specs.Outcomes.{IsOutcome}
 use Rattle.wac_parser_declare.specs.Holding.{Holds}
 use Rattle.wac_parser_resolve.specs.declared.targets.Noted.{Noted}
@@ -38,10 +41,11 @@ use Rattle.wac_parser_resolve.specs.declared.targets.Asked.{Asked}
 use Rattle.wac_parser_resolve.specs.declared.targets.Place.{Place}
 use Rattle.wac_parser_resolve.specs.declared.targets.Target.{Target}
 use Rattle.wac_parser_resolve.specs.Ascribing.{State}
+use Rattle.wac_parser_resolve.specs.Denoting.{fitting}
 use Rattle.wac_parser_resolve.specs.Giving.{gives_of}
 use Rattle.wac_parser_resolve.specs.Holding.{Says}
 use Rattle.wac_parser_resolve.specs.Meeting as stated
-use Rattle.wac_parser_resolve.specs.Meeting.{Wanted, refuse_at, uses_are_named, import_met}
+use Rattle.wac_parser_resolve.specs.Meeting.{Wanted, uses_are_named, import_met}
 use Rattle.wac_parser_resolve.specs.Said.{AreAsked, AreExported, IsSaid, last_noted}
 use Rattle.wac_parser_resolve.specs.Saying.{statement}
 use Rattle.wac_parser_resolve.specs.Targeting.{AreExportsMet, Gives, IsInstanceMet, IsStatementMet}
@@ -63,8 +67,21 @@ IsAnswerOf r (Some e) = (r ≡ Err e) × (e ≡ SubtypeError.Memory → ⊥)
 abbrev pub fit_in : Collection → ItemKind → ItemKind → Bool
 fit_in c given asked = fits (stated_of c given) (stated_of c asked)
 
-abbrev pub tells_mismatch : Collection → ItemKind → ItemKind → Option SubtypeError → Type 0
-tells_mismatch c given asked o = is_some o ≡ not (fit_in c given asked)
+-- the error tells where the two disagree, by this direction; none where they fit
+abbrev pub TellsMismatch : SubtypeCheck → Collection → ItemKind → ItemKind → Option SubtypeError → Type 0
+TellsMismatch way c given asked None = fit_in c given asked ≡ true
+TellsMismatch way c given asked (Some e) =
+    (fit_in c given asked ≡ false) × TellsBetween way (stated_of c given) (stated_of c asked) (reported (words_of e))
+
+-- a check that is turned about
+abbrev pub turned_by : Bool → SubtypeCheck
+turned_by false = SubtypeCheck.Covariant
+turned_by true = SubtypeCheck.Contravariant
+
+-- what is imported is checked turned about
+abbrev pub way_of : ExternKind → SubtypeCheck
+way_of ExternKind.Import = SubtypeCheck.Contravariant
+way_of ExternKind.Export = SubtypeCheck.Covariant
 
 -- ---- causes
 
@@ -74,17 +91,17 @@ lacks_import t a = maybe_at (ImportNotInTarget a.name.now t.path.now.string.now)
 abbrev pub mismatch_in : Target → Place → Fault
 mismatch_in t p = TargetMismatch p.kind p.name.now t.path.now.string.now
 
-abbrev pub mismatched_at : Target → Place → Option Cause
-mismatched_at t p = maybe_at (mismatch_in t p) p.span
+abbrev pub mismatched_at : Target → Place → SubtypeError → Option Cause
+mismatched_at t p e = checked_at (mismatch_in t p) p.span e
 
 abbrev pub lacks_export : Target → Name → Name → Fault
 lacks_export t n kind = MissingTargetExport n kind t.path.now.string.now
 
-abbrev pub passes_or : Bool → Fault → Option Span → Answer ⊤
-passes_or b f s = if b then pure tt else refuse_at f s
+abbrev pub fit_test : Target → Collection → ItemKind → ItemKind → Place → Answer ⊤
+fit_test t c given asked p = fitting (way_of p.kind) (stated_of c given) (stated_of c asked) (mismatch_in t p) p.span
 
 abbrev pub IsFitTested : Target → Collection → ItemKind → ItemKind → Place → Result ⊤ Refusal → Type 0
-IsFitTested t c given asked p r = IsTold (passes_or (fit_in c given asked) (mismatch_in t p) p.span) r
+IsFitTested t c given asked p r = IsTold (fit_test t c given asked p) r
 
 -- ---- imports
 
@@ -159,7 +176,7 @@ AreInstancesTested t g noted r = IsTold (all_pass (λ e. instance_test t g e.0) 
 abbrev pub export_at : Target → Graph → List (ℕ × Span) → Name × ItemKind → Option ℕ → Answer ⊤
 export_at t g spans e None = refuse (lacks_export t e.0 (desc (stated_of g.types e.1))) t.path.now.span
 export_at t g spans e (Some k) =
-    passes_or (fits (node_item g k) (promote (stated_of g.types e.1)))
+    fitting SubtypeCheck.Covariant (node_item g k) (promote (stated_of g.types e.1))
     (TargetMismatch ExternKind.Export e.0 t.path.now.string.now) (last_noted spans k)
 
 abbrev pub export_test : Target → Graph → List (ℕ × Span) → Name × ItemKind → Answer ⊤

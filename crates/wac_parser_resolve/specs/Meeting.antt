@@ -5,14 +5,15 @@ use Rattle.wac_types_base.specs.declared.item.ExternKind.{ExternKind}
 use Rattle.wac_types_base.specs.Entries.{Name, value_at, put_entry}
 use Rattle.wac_types_base.specs.Stated.{Stated, Kind, IsWorld, Used, kind_of, desc, promote, untyped, exports_of, imports_of, uses_of, identifier_of}
 use Rattle.wac_types_names.specs.Keys.{Key}
-use Rattle.wac_composition.specs.Tests.{fits}
+use Rattle.wac_types_fit.specs.declared.checker.SubtypeCheck.{SubtypeCheck}
 use Rattle.wac_composition.specs.Classes.{is_instance_kind}
 use Rattle.wac_parser_tree.specs.Trees as t
 use Rattle.wac_parser_tree.specs.Trees.{Span}
-use Rattle.wac_parser_refusals.specs.Causes.{Answer, Fault, ◌>>=◌, ◌>>◌, pure, refuse, unless_clear, each, NotWorld, TypeCannotBeWritten, ImportNotInTarget, TargetMismatch, MissingTargetExport}
+use Rattle.wac_parser_refusals.specs.Causes.{Answer, Fault, ◌>>=◌, ◌>>◌, pure, refuse, each, NotWorld, TypeCannotBeWritten, ImportNotInTarget, TargetMismatch, MissingTargetExport, plainly}
 use Rattle.wac_parser_declare.specs.Packages.{Content}
 use Rattle.wac_parser_declare.specs.Scope.{path_item}
 use Rattle.wac_parser_resolve.specs.Ascribing.{Import, Made, Bound, State, context}
+use Rattle.wac_parser_resolve.specs.Denoting.{fitting}
 use Rattle.std.specs.Option.{option_or}
 use Rattle.wac_parser_resolve.specs.Saying.{export_span, statements}
 
@@ -56,20 +57,21 @@ wanted_by_instance m = map (λ e. record { name = e.0; item = e.1; span = None }
 abbrev pub wanted : State → List Wanted
 wanted g = map wanted_by_statement g.imports ++ flat_map wanted_by_instance g.made
 
--- ---- the target is met
+-- ---- the target is met: what the target gives fits what is imported, which is checked turned about, and what is exported fits
+-- what the target asks
 
 abbrev pub refuse_at : Fault → Option Span → Answer ⊤
-refuse_at f s = Err (record { fault = f; span = s })
+refuse_at f s = Err (plainly f s)
 
 abbrev pub import_met : t.PackagePath → Wanted → Option Stated → Answer ⊤
 import_met p a None = refuse_at (ImportNotInTarget a.name p.string) a.span
 import_met p a (Some x) =
-    if fits (promote x) a.item then pure tt else refuse_at (TargetMismatch ExternKind.Import a.name p.string) a.span
+    fitting SubtypeCheck.Contravariant (promote x) a.item (TargetMismatch ExternKind.Import a.name p.string) a.span
 
 abbrev pub export_met : State → t.PackagePath → Name → Stated → Option Bound → Answer ⊤
 export_met g p n x None = refuse (MissingTargetExport n (desc x) p.string) p.span
 export_met g p n x (Some e) =
-    unless_clear (not (fits e.denoted.item (promote x))) (TargetMismatch ExternKind.Export n p.string) (export_span g e)
+    fitting SubtypeCheck.Covariant e.denoted.item (promote x) (TargetMismatch ExternKind.Export n p.string) (Some (export_span g e))
 
 abbrev pub uses_are_named : Stated → Bool
 uses_are_named w = list_all (λ (u : Used). is_some (identifier_of u.interface)) (implicit_uses w)

@@ -3,7 +3,7 @@ use Rattle.std.specs.Prelude.{◌≡◌, [], ◌∷◌, Ok, codes}
 use Rattle.wac_composition.specs.Composition as c
 use Rattle.wac_composition.specs.Examples.{plain_func, func_of_number, named_instance, passing, newer, wider}
 use Rattle.wac_parser_refusals.specs.Causes.{MissingInstantiationArg, MismatchedInstantiationArg, InstantiationArgMergeFailure, UndefinedName, UnknownPackage, ImportConflict, ExportRequiresAs}
-use Rattle.wac_parser_resolve.specs.Rows.{sp, key, plain_package, refusal, said, handed, from_g_to_h, one_instance, nothing_given, one_into_another, interface_name}
+use Rattle.wac_parser_resolve.specs.Rows.{sp, key, plain_package, refusal, unfit, said, handed, from_g_to_h, one_instance, nothing_given, one_into_another, interface_name}
 use Rattle.wac_parser_resolve.specs.Rows.{two_versions, versions, unknown_name, own_package, asked_and_filled, no_name_to_export, named_by_identifier, exporting_identified}
 
 -- one outer import, one instance, one export
@@ -28,7 +28,7 @@ Says_passed = said one_into_another handed
 abbrev pub Says_mismatched : Type 0
 Says_mismatched =
     said one_into_another (plain_package (codes "p:p") passing ∷ plain_package (codes "q:q") (from_g_to_h func_of_number) ∷ [])
-    ≡ refusal (MismatchedInstantiationArg (codes "g")) 56 1
+    ≡ unfit (MismatchedInstantiationArg (codes "g")) 56 1 plain_func func_of_number
 
 -- two versions are one outer import
 abbrev pub Says_merged : Type 0

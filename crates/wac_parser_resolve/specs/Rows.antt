@@ -3,6 +3,7 @@ use Rattle.std.specs.Prelude.{ℕ, suc, false, true, List, [], ◌∷◌, Option
 use Rattle.wac_types_base.specs.Entries.{Name}
 use Rattle.wac_types_base.specs.Stated.{Stated, world_of}
 use Rattle.wac_types_names.specs.Keys.{Key}
+use Rattle.wac_types_fit.specs.declared.checker.SubtypeCheck.{SubtypeCheck}
 use Rattle.wac_composition.specs.Asks.{asks_of}
 use Rattle.wac_composition.specs.OuterImports.{outer_imports}
 use Rattle.wac_composition.specs.Composition as c
@@ -10,7 +11,8 @@ use Rattle.wac_composition.specs.Composition.{Composition}
 use Rattle.wac_composition.specs.Examples.{plain_func, named_instance, older, newer, passing, importing}
 use Rattle.wac_parser_tree.specs.Trees as t
 use Rattle.wac_parser_tree.specs.Trees.{Span}
-use Rattle.wac_parser_refusals.specs.Causes.{Answer, Fault}
+use Rattle.wac_parser_refusals.specs.Causes.{Answer, Fault, plainly}
+use Rattle.wac_parser_refusals.specs.Sources.{between}
 use Rattle.wac_parser_declare.specs.Packages.{Content}
 use Rattle.wac_parser_resolve.specs.Ascribed.{Asker, ascribed}
 
@@ -63,7 +65,11 @@ abbrev pub key : Name → Key
 key n = (n, None)
 
 abbrev pub refusal : {A : Type 0} → Fault → ℕ → ℕ → Answer A
-refusal f a b = Err (record { fault = f; span = Some (sp a b) })
+refusal f a b = Err (plainly f (Some (sp a b)))
+
+-- of something given that does not fit what is asked
+abbrev pub unfit : {A : Type 0} → Fault → ℕ → ℕ → (given asked : Stated) → Answer A
+unfit f a b given asked = Err (record { fault = f; span = Some (sp a b); source = between SubtypeCheck.Covariant given asked })
 
 -- ---- the packages handed in
 

@@ -12,7 +12,7 @@ ghost use Rattle.wac_parser_refusals.specs.Views.{Names};
 ghost use Rattle.wac_parser_resolve.specs.Giving.{gives_of};
 ghost use Rattle.wac_parser_resolve.specs.InTargets.{AreExportsTested, AreFilledTested, AreInstancesMet, AreInstancesTested, AreStatementsMet, AreStatementsTested};
 ghost use Rattle.wac_parser_resolve.specs.InTargets.{IsAllNoted, IsAnswerOf, IsExportTested, IsFaultOf, IsFilledTested, IsFitTested, IsImportTested, IsInstanceTested, IsStatementTested};
-ghost use Rattle.wac_parser_resolve.specs.InTargets.{NotedIsMet, NotedMeets, NotedMeetsWorld, StandNoted, is_passed_in, lacks_export, lacks_import, mismatched_at, tells_mismatch};
+ghost use Rattle.wac_parser_resolve.specs.InTargets.{NotedIsMet, NotedMeets, NotedMeetsWorld, StandNoted, TellsMismatch, is_passed_in, lacks_export, lacks_import, mismatched_at, turned_by, way_of};
 ghost use Rattle.wac_parser_resolve.specs.Targeting.{AreExportsMet, AreFilledMet, IsExportMet, IsFilledMet, IsImportMet, IsInstanceMet, IsMet, IsStatementMet};
 
 use crate::board::{item_of, world_of};
@@ -80,7 +80,7 @@ fn mismatch(
 ) -> Result<Option<SubtypeError>, AllocError>
     requires given { Stands types.now given }
     requires asked { Stands types.now asked }
-    ensures { IfOk result (tells_mismatch types.now given asked) }
+    ensures { IfOk result (TellsMismatch (turned_by is_turned) types.now given asked) }
 {
     let mut cache = new_cache(alloc);
     let mut checker = SubtypeChecker::new(alloc, &mut cache);
@@ -89,6 +89,16 @@ fn mismatch(
         return mismatch_of(checker.is_subtype(given, types, asked, types));
     }
     mismatch_of(checker.is_subtype(given, types, asked, types))
+}
+
+/// Whether what is of this kind is checked turned about.
+fn is_turned(kind: ExternKind) -> bool
+    ensures { turned_by result ≡ way_of kind }
+{
+    match kind {
+        ExternKind::Import => true,
+        ExternKind::Export => false,
+    }
 }
 
 /// Whether something is passed to an instance under a name.
@@ -119,7 +129,7 @@ impl<'p, 's, 'i, 't> Target<'p, 's, 'i, 't> {
 
     /// A refusal of what does not fit.
     fn mismatched(&self, place: Place<'_>, source: SubtypeError) -> Result<Refusal, AllocError>
-        ensures { IfOk result (λ e. Names e (mismatched_at self.now place.entry)) }
+        ensures { IfOk result (λ e. Names e (mismatched_at self.now place.entry source)) }
     {
         let fault = Error::TargetMismatch {
             kind: place.kind,
@@ -161,8 +171,7 @@ impl<'p, 's, 'i, 't> Target<'p, 's, 'i, 't> {
         ensures ok { OnOk result (Fit types.now given types.now asked) }
         ensures outcome { IsFitTested self.now types.now given asked place.entry result }
     {
-        let is_turned = matches!(place.kind, ExternKind::Import);
-        match mismatch(self.alloc, types, given, asked, is_turned)? {
+        match mismatch(self.alloc, types, given, asked, is_turned(place.kind))? {
             None => Ok(()),
             Some(source) => Err(self.mismatched(place, source)?),
         }

@@ -27,7 +27,7 @@ returns-then-contains_borrow-clause-outcome g c =
     let is : contains_borrow (stated_value new c.in_ok-found.found) ≡ true =
     subst (λ (x : Collection). contains_borrow (stated_value x c.in_ok-found.found) ≡ true) c.types.ensures (sym c.contains_borrow.ensures ∙ c.if-contains_borrow.true) in
     borrowing new ty (value ns ty) c.in_ok-found.found _ c.in_ok-found.ensures.outcome is
-    (subst (λ (s : Span). Refuses c.named.result BorrowInResult s) c.span.ensures (told c.named.result (record { fault = BorrowInResult; span = Some c.span.result }) c.named.ensures))
+    (subst (λ (s : Span). Refuses c.named.result BorrowInResult s) c.span.ensures (told c.named.result BorrowInResult (Some c.span.result) c.named.ensures))
 
 pub returns-clause-outcome : goal.returns-clause-outcome
 returns-clause-outcome g c =

@@ -11,7 +11,7 @@ pub returns-then-is_given-clause-outcome : goal.returns-then-is_given-clause-out
 returns-then-is_given-clause-outcome c g ms gs a all is =
     give_refused g ms gs c.args.given.now.items all a c.args.one is c.is_given.result c.named.result
     (c.is_given.ensures ∙ ap (has_name (names_given c.args.given.now.items)) c.as_str.ensures.value) c.if-is_given.true
-    (told c.named.result (record { fault = DuplicateInstantiationArg (string_bytes c.args.one.name); span = Some c.args.one.span }) c.named.ensures)
+    (told c.named.result (DuplicateInstantiationArg (string_bytes c.args.one.name)) (Some c.args.one.span) c.named.ensures)
 
 pub returns-clause-outcome : goal.returns-clause-outcome
 returns-clause-outcome c g ms gs a all is =

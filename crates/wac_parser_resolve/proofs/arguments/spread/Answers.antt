@@ -41,7 +41,7 @@ returns-then-is_empty-clause-outcome c noted q says =
     ∙ left_same g ms q.1 c.args.given.now.items d.item c.args.world c.in_ok-interface.interface says.1 h in
     subst (λ (r : Answer (State × List stated.Given)). IsRefusal r c.named.result) (sym (needs_same d InstanceOperation.Spread i.span (spread_all i.span d q (left_names q.1 ns d.item)) one))
     (none_spread i.span d q (left_names q.1 ns d.item) c.named.result (sym names ∙ no_texts c.in_ok-names.names.items (let z = zero_by (vec_len c.in_ok-names.names) c.is_empty.result c.is_empty.ensures c.if-is_empty.true in omega (arith, z, c.in_ok-names.names.ok)))
-    (told c.named.result (record { fault = SpreadInstantiationNoMatch; span = Some i.span }) c.named.ensures)))
+    (told c.named.result SpreadInstantiationNoMatch (Some i.span) c.named.ensures)))
 
 pub returns-clause-outcome : goal.returns-clause-outcome
 returns-clause-outcome c noted q says =

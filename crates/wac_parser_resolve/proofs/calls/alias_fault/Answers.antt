@@ -24,7 +24,7 @@ returns-in-InstanceMissingExport c n d refused item =
     let r = subst (AliasRefused c.args.graph.now c.args.node n) c.in-InstanceMissingExport.is refused in
     no_export c.args.graph.now a c.args.node d item c.args.access.operation c.args.access.instance c.named.result n c.args.access.access r.2
     (subst (λ (m : Name). Refuses c.named.result (MissingInstanceExport m) c.args.access.access) r.1
-    (told c.named.result (record { fault = MissingInstanceExport (string_bytes c.in-InstanceMissingExport.export); span = Some c.args.access.access }) c.named.ensures))
+    (told c.named.result (MissingInstanceExport (string_bytes c.in-InstanceMissingExport.export)) (Some c.args.access.access) c.named.ensures))
 
 pub returns-in-Memory : goal.returns-in-Memory
 returns-in-Memory c n d refused item = memory_refusal (needs_instance d c.args.access.operation c.args.access.instance >> export_named d n c.args.access.access) _ tt

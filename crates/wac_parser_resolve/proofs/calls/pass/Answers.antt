@@ -6,8 +6,8 @@ use Rattle.wac_graph_core.specs.Refusals.{ArgumentRefused}
 use Rattle.wac_graph_core.specs.Steps.{SetsArgument}
 use Rattle.wac_parser_refusals.specs.Causes.{MismatchedInstantiationArg, MissingComponentImport}
 use Rattle.wac_parser_refusals.specs.Outcomes.{Refuses}
+use Rattle.wac_parser_refusals.specs.Views.{Names, checked_at}
 use Rattle.wac_parser_refusals.proofs.Outcomes.{memory_refusal}
-use Rattle.wac_parser_declare.proofs.Members.{told}
 use Rattle.wac_parser_resolve.specs.Denoting.{argument_fits}
 use Rattle.wac_parser_resolve.proofs.Growing.{Inner-same, Inner-set, within_same, within_set}
 use Rattle.wac_parser_resolve.proofs.Fresh.{fresh_set, no_cycle, cycle_refused}
@@ -54,8 +54,7 @@ returns-in-Err-ArgumentTypeMismatch-clause-outcome c noted names s m a says give
     let r = subst (λ (n : Name). ArgumentRefused c.args.graph.now c.args.instance n c.args.one.now.node c.in-Err-ArgumentTypeMismatch.field-0) c.as_str.ensures.value c.in-Err-ArgumentTypeMismatch.ensures.refused in
     let q = subst (ArgumentRefused c.args.graph.now c.args.instance (string_bytes c.args.one.now.name) c.args.one.now.node) c.in-Err-ArgumentTypeMismatch.field-0-is r in
     differs c.args.graph.now c.see_sound.ensures acyclic noted c.args.instance names s m says a c.args.one.now given new q.1 c.in-Err-ArgumentTypeMismatch.source c.named.result q.2 q.3
-    (subst (λ (n : Name). Refuses c.named.result (MismatchedInstantiationArg n) c.args.one.now.span) q.0
-    (told c.named.result (record { fault = MismatchedInstantiationArg (string_bytes c.in-Err-ArgumentTypeMismatch.name); span = Some c.args.one.now.span }) c.named.ensures))
+    (subst (λ (n : Name). Names c.named.result (checked_at (MismatchedInstantiationArg n) (Some c.args.one.now.span) c.in-Err-ArgumentTypeMismatch.source)) q.0 c.named.ensures)
 
 pub returns-in-Err-ArgumentAlreadyPassed-clause-inner : goal.returns-in-Err-ArgumentAlreadyPassed-clause-inner
 returns-in-Err-ArgumentAlreadyPassed-clause-inner c = Inner-same c.args.graph.now c.set_instantiation_argument.new.self c.in-Err-ArgumentAlreadyPassed.ensures.kept

@@ -187,7 +187,7 @@ argument-returns-else-is_last-clause-outcome u c q given =
     let ns = imported_by c.args.board.now.types.graph.types c.args.world in
     subst (λ (a : t.InstantiationArgument). IsRefusal (one_argument q.0 ns q.1 a c.args.is_last) c.named-else-is_last.result) (sym (ap view_instantiation_argument c.in-Fill.is ∙ argument_fill c.in-Fill.span))
     (fill_refused c.args.is_last c.in-Fill.span q c.named-else-is_last.result c.if-is_last.false
-    (told c.named-else-is_last.result (record { fault = FillArgumentNotLast; span = Some c.in-Fill.span }) c.named-else-is_last.ensures))
+    (told c.named-else-is_last.result FillArgumentNotLast (Some c.in-Fill.span) c.named-else-is_last.ensures))
 
 -- ---- an expression
 

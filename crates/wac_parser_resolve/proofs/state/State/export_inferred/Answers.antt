@@ -16,7 +16,7 @@ returns-in-None-clause-outcome c own s d said dn spoken =
     let acyclic = subst IsAcyclic c.types.ensures c.see_acyclic.ensures in
     let name = inferred_told b.board.types.graph c.see_sound.ensures acyclic c.args.node _ c.in-None.ensures (names_of b.board.instances.noted.items) d dn in
     unnamed_refused (λ n. exported d true s (record { string = n; span = c.args.span })) c.args.span (export_name d) c.named.result name
-    (told c.named.result (record { fault = ExportRequiresAs; span = Some c.args.span }) c.named.ensures)
+    (told c.named.result ExportRequiresAs (Some c.args.span) c.named.ensures)
 
 pub returns-clause-outcome : goal.returns-clause-outcome
 returns-clause-outcome c own s d said dn spoken =

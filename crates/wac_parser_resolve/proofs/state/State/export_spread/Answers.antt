@@ -35,7 +35,7 @@ returns-then-is_empty-clause-outcome c own s d said dn spoken =
     subst (λ (r : Answer State). IsRefusal r c.named.result) (sym (needs_same d InstanceOperation.Spread at (export_left s at c.args.dots d left) one))
     (none_left s at c.args.dots d left c.named.result
     (sym names ∙ no_texts c.in_ok-names.names.items (let z = zero_by (vec_len c.in_ok-names.names) c.is_empty.result c.is_empty.ensures c.if-is_empty.true in omega (arith, z, c.in_ok-names.names.ok)))
-    (told c.named.result (record { fault = SpreadExportNoEffect; span = Some at }) c.named.ensures))
+    (told c.named.result SpreadExportNoEffect (Some at) c.named.ensures))
 
 pub returns-clause-outcome : goal.returns-clause-outcome
 returns-clause-outcome c own s d said dn spoken =
