@@ -53,7 +53,7 @@ use Rattle.wac_graph_asks.specs.Outers.{IsCalled, AreOuters, AnswersOuters}
 use Rattle.wac_graph_asks.proofs.Asking.{asks_kept}
 use Rattle.wac_graph_asks.proofs.Importing.{imports_stand, imports_stay}
 use Rattle.wac_graph_asks.proofs.Merged.{all_merged, refused_labelled}
-use Rattle.wac_graph_asks.proofs.Once.{asked_once_keeps, asked_once_imports, asked_once_conflicts}
+use Rattle.wac_graph_asks.proofs.Once.{asked_once_keeps, asked_once_imports, asked_once_conflicts, asked_once_tells}
 use Rattle.wac_graph_asks.proofs.Repeating.{once_of_all, behind_has}
 use Rattle.wac_graph_asks.proofs.TakingMore.{if_conflict}
 
@@ -204,7 +204,10 @@ pub answers_refused : {T : Type 0} (r : Result T OuterError) (old : Asked) (labe
     → IfErr r (λ e. IfConflict e (ConflictsFor old))
 answers_refused (Ok x) old labels acyclic differ are h = tt
 answers_refused (Err e) old labels acyclic differ are h =
-    if_conflict e (λ cause refuses g asked. same_conflicts old acyclic differ g asked ∙ refused_labelled old.types old.asks.items labels cause (sound old acyclic differ g asked) are refuses) h
+    if_conflict e (λ cause source refuses g asked. (
+    let r = refused_labelled old.types old.asks.items labels cause source (sound old acyclic differ g asked) are refuses in
+    (same_conflicts old acyclic differ g asked ∙ r.0, asked_once_tells source (all old acyclic differ g asked) (list old acyclic differ g asked) (once old acyclic differ g asked) (well old acyclic differ g asked) r.1)
+    )) h
 
 -- ---- the world
 

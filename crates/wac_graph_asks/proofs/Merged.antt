@@ -7,6 +7,7 @@ use Rattle.std.proofs.lemmas.List.{length-map}
 use Rattle.wac_types_base.specs.Record.{Collection}
 use Rattle.wac_types_base.proofs.Walking.{slice_get-Among}
 use Rattle.wac_graph_core.proofs.Found.{eq_same}
+use Rattle.wac_types_merge.specs.declared.errors.AggregateError.{AggregateError}
 use Rattle.wac_composition.specs.Asks.{Ask}
 use Rattle.wac_composition.specs.Classes.{class}
 use Rattle.wac_composition.specs.Merging.{kept}
@@ -14,7 +15,8 @@ use Rattle.wac_composition.specs.OuterImports.{asked_in}
 use Rattle.wac_composition.specs.Conflicts.{Cause, merge_conflict}
 use Rattle.wac_merging.specs.Named.{NamesDiffer}
 use Rattle.wac_merging.specs.Labelled.{labelled, LabelClasses, AreLabels}
-use Rattle.wac_merging.proofs.Conflicts.{kept_have_no_conflict, refused_is_conflict}
+use Rattle.wac_merging.specs.Unmerged.{TellsConflict}
+use Rattle.wac_merging.proofs.Conflicts.{kept_have_no_conflict, refused_is_conflict, refused_is_told}
 use Rattle.wac_merging.proofs.Labels.{class_is_labelled}
 use Rattle.wac_merging.proofs.Outers.{labels_are_of_classes}
 use Rattle.wac_graph_asks.specs.declared.asks.Ask.{Ask as HeldAsk}
@@ -78,10 +80,13 @@ pub free_labelled : {T E : Type 0} (r : Result T E) (c d : Collection) (asks hel
 free_labelled r c d asks held ls labels taken is own takes =
     always r (HasNoneLabelled c held labels) (none_labelled c d held labels taken (subst (λ l. TakesAll c held l d taken) own (subst (λ xs. TakesAll c xs ls d taken) is takes)))
 
--- the ask that is refused by its label is the first conflict
-pub refused_labelled : (c : Collection) (held : List HeldAsk) (labels : List ℕ) (cause : Cause ℕ) → AreSound c held → AreLabels (asks_in c held) labels → RefusesAll c held labels cause → merge_conflict (asks_in c held) [] (asks_in c held) ≡ Some cause
-refused_labelled c held labels cause sound are refuses =
+-- the ask that is refused by its label is the first conflict, of which the source tells
+pub refused_labelled : (c : Collection) (held : List HeldAsk) (labels : List ℕ) (cause : Cause ℕ) (source : AggregateError) → AreSound c held → AreLabels (asks_in c held) labels → RefusesAll c held labels cause source
+    → (merge_conflict (asks_in c held) [] (asks_in c held) ≡ Some cause) × TellsConflict source (asks_in c held)
+refused_labelled c held labels cause source sound are refuses =
     let asks = asks_in c held in
     let r = refuses sound (are.as_many ∙ length-map held (ask_in c)) in
-    let classes = subst (λ ls. LabelClasses (r.before ++ r.ask ∷ r.later) ls) r.labels_are (subst (λ xs. LabelClasses xs labels) r.asks_are (labels_are_of_classes asks labels are)) in
-    ap (λ xs. merge_conflict xs [] xs) r.asks_are ∙ refused_is_conflict r.before r.later r.labels_before r.labels_later r.ask r.label classes r.as_many r.in_turn r.nothing ∙ sym r.is
+    let classes = subst (λ ls. LabelClasses (r.before ++ r.ask ∷ r.later) ls) r.labels_are (subst (λ xs. LabelClasses xs labels) r.asks_are (labels_are_of_classes asks labels are)) in (
+      ap (λ xs. merge_conflict xs [] xs) r.asks_are ∙ refused_is_conflict r.before r.later r.labels_before r.labels_later r.ask r.label classes r.as_many r.in_turn r.nothing ∙ sym r.is,
+      subst (TellsConflict source) (sym r.asks_are) (refused_is_told source r.before r.later r.labels_before r.labels_later r.ask r.label classes r.as_many r.in_turn r.tells),
+    )

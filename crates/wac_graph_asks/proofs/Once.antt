@@ -2,6 +2,7 @@
 use Rattle.std.proofs.Common.{◌≡◌, List, [], ◌∷◌, ◌++◌, refl, sym, ap, subst, ◌∙◌, inl, inr, append_assoc}
 use Rattle.wac_types_base.specs.Graph.{Among}
 use Rattle.wac_types_base.proofs.Adding.{Among-left, Among-right}
+use Rattle.wac_types_merge.specs.declared.errors.AggregateError.{AggregateError}
 use Rattle.wac_composition.specs.Asks.{Ask}
 use Rattle.wac_composition.specs.Again.{IsWell, KeepsClasses}
 use Rattle.wac_composition.specs.OuterImports.{outer_imports}
@@ -9,9 +10,10 @@ use Rattle.wac_composition.specs.Conflicts.{merge_conflict}
 use Rattle.wac_composition.proofs.AskedAgain.{asked_again}
 use Rattle.wac_composition.proofs.OutersAgain.{outers_again}
 use Rattle.wac_composition.proofs.Clashing.{among_append}
-use Rattle.wac_merging.proofs.Repeated.{repeated_conflicts_no_more}
+use Rattle.wac_merging.specs.Unmerged.{TellsConflict}
+use Rattle.wac_merging.proofs.Repeated.{repeated_conflicts_no_more, repeated_is_told}
 use Rattle.wac_graph_asks.proofs.Repeating.{listed_among}
-use Rattle.wac_graph_asks.specs.Asked.{IsAskedBehind, no_more, asked, left_out, Asked_once_keeps, Asked_once_imports, Asked_once_conflicts}
+use Rattle.wac_graph_asks.specs.Asked.{IsAskedBehind, no_more, asked, left_out, Asked_once_keeps, Asked_once_imports, Asked_once_conflicts, Asked_once_tells}
 
 module _ {A : Type 0} where
   keeps_itself : (xs : List (Ask A)) → KeepsClasses xs xs
@@ -60,3 +62,12 @@ module _ {A : Type 0} where
 
   pub asked_once_conflicts : Asked_once_conflicts A
   asked_once_conflicts asks list h well = conflicts_behind h well
+
+  tells_behind : (e : AggregateError) {before asks list : List (Ask A)} → IsAskedBehind before asks list → ((a : Ask A) → Among a (before ++ list) → IsWell a.item) → TellsConflict e (before ++ list) → TellsConflict e (before ++ asks)
+  tells_behind e no_more well t = t
+  tells_behind e {before} (asked {asks = asks} {list = list} a h) well t =
+      subst (TellsConflict e) (append_assoc before (a ∷ []) asks) (tells_behind e h (λ x m. well x (subst (λ l. Among x l) (append_assoc before (a ∷ []) list) m)) (subst (TellsConflict e) (sym (append_assoc before (a ∷ []) list)) t))
+  tells_behind e {before} (left_out {asks = asks} {list = list} a b o m n i h) well t = repeated_is_told e before asks a b m n i (λ c k. well c (Among-left c before list k)) (tells_behind e h well t)
+
+  pub asked_once_tells : Asked_once_tells A
+  asked_once_tells e asks list h well t = tells_behind e h well t

@@ -16,12 +16,14 @@ use Rattle.wac_types_base.proofs.Replacing.{same_number}
 use Rattle.wac_types_base.proofs.Lists.{there_is}
 use Rattle.wac_types_base.proofs.Stating.{stated_kept}
 use Rattle.wac_graph_core.proofs.Found.{eq_same, eq_false}
+use Rattle.wac_types_merge.specs.declared.errors.AggregateError.{AggregateError}
 use Rattle.wac_composition.specs.Asks.{Ask}
 use Rattle.wac_composition.specs.Merging.{kept as kept_of}
 use Rattle.wac_composition.specs.Again.{IsWell}
 use Rattle.wac_composition.specs.OuterImports.{asked_in}
 use Rattle.wac_composition.specs.Conflicts.{Cause, merge_cause}
 use Rattle.wac_merging.specs.Kept.{Keeps}
+use Rattle.wac_merging.specs.Unmerged.{TellsUnmerged}
 use Rattle.wac_merging.specs.Labelled.{labelled, each_label, with_label, AreKept, none_asked, one_more_kept}
 use Rattle.wac_merging.proofs.Taking.{taken_stays}
 use Rattle.wac_merging.proofs.Labels.{one_more_labelled}
@@ -187,9 +189,9 @@ named c x b bs = go x.asking
     go HeldAsking.ToFill = refl
     go HeldAsking.ToUse = refl
 
-pub refused_at : (c : Collection) → IsAcyclic c → (held : List HeldAsk) (labels : List ℕ) (m l : ℕ) (d : Collection) (taken : List (ℕ × Taken)) → m < length held → l ≡ label_at labels m → SoFar c held labels m d taken → (cause : Cause ℕ) → RefusesAt d held m l taken cause
-    → RefusesAll c held labels cause
-refused_at c acyclic held labels m l d taken lt is far cause refuses sound many = go (lookup (λ k. l == k) taken) refl (refuses x.0 x.1)
+pub refused_at : (c : Collection) → IsAcyclic c → (held : List HeldAsk) (labels : List ℕ) (m l : ℕ) (d : Collection) (taken : List (ℕ × Taken)) → m < length held → l ≡ label_at labels m → SoFar c held labels m d taken → (cause : Cause ℕ) (source : AggregateError)
+    → RefusesAt d held m l taken cause source → RefusesAll c held labels cause source
+refused_at c acyclic held labels m l d taken lt is far cause source refuses sound many = go (lookup (λ k. l == k) taken) refl (refuses x.0 x.1)
   where
     asks : List (Ask ℕ)
     asks = asks_in c held
@@ -209,13 +211,15 @@ refused_at c acyclic held labels m l d taken lt is far cause refuses sound many 
     as_many : length (take m labels) ≡ length (take m (asks_in c held))
     as_many = length-take-le m labels (omega (arith, many, lt)) ∙ sym (length-take-le m (asks_in c held) (omega (arith, length-map held (ask_in c), lt)))
 
-    go : (o : Option Taken) → lookup (λ j. l == j) taken ≡ o → RefusesOne d held o x.0 cause → RefusesAsk (asks_in c held) labels cause
+    go : (o : Option Taken) → lookup (λ j. l == j) taken ≡ o → RefusesOne d held o x.0 cause source → RefusesAsk (asks_in c held) labels cause source
     go None e r = absurd r
     go (Some before) e r =
         let was = t.each l before e in
         let h = r was.first was.there in
         let own = own_labelled c acyclic held sound (take m (asks_in c held)) (take m labels) as_many l (ask_in c x.0) in
         let so_far = labelled l (take m (asks_in c held)) (take m labels) in
+        let stands = held_stands c acyclic held sound m x.0 x.1 in
+        let told = h.1 (asked_in so_far) (first_among c acyclic held sound d so_far before was) (far.0.stand x.0.item stands) (well_in c acyclic held sound d far.0 m x.0 x.1) was.keeps in
         record {
           before = take m (asks_in c held);
           ask = ask_in c x.0;
@@ -227,7 +231,7 @@ refused_at c acyclic held labels m l d taken lt is far cause refuses sound many 
           labels_are = split_there labels m l label;
           as_many = as_many;
           in_turn = t.in_turn;
-          nothing = ap (λ (ys : List (Ask ℕ)). kept_of (asked_in ys)) own ∙ ap kept_of (asked_with c acyclic held sound d far.0 m x.0 x.1 so_far)
-              ∙ h.1 (asked_in so_far) (first_among c acyclic held sound d so_far before was) (far.0.stand x.0.item (held_stands c acyclic held sound m x.0 x.1)) (well_in c acyclic held sound d far.0 m x.0 x.1) was.keeps;
+          nothing = ap (λ (ys : List (Ask ℕ)). kept_of (asked_in ys)) own ∙ ap kept_of (asked_with c acyclic held sound d far.0 m x.0 x.1 so_far) ∙ told.nothing;
+          tells = subst (λ s. TellsUnmerged source (asked_in so_far) (x.0.name, s)) (stated_kept c d far.0 x.0.item stands) told;
           is = ap Some h.0 ∙ named c x.0 (ask_in d was.first) (was.others ++ ask_in c x.0 ∷ []) ∙ ap (merge_cause (asking_of x.0.asking) (ask_in c x.0)) (sym (own ∙ ap (λ (ys : List (Ask ℕ)). ys ++ ask_in c x.0 ∷ []) was.begins));
         }

@@ -17,7 +17,7 @@ use Rattle.wac_composition.specs.Merging.{Asked}
 use Rattle.wac_merging.specs.declared.kept.Kept.{Kept}
 use Rattle.wac_merging.specs.Asking.{asked_as, FamilyTaken}
 use Rattle.wac_composition.specs.Conflicts.{Cause, ExplicitImport, ImportTypes}
-use Rattle.wac_merging.specs.Kept.{Keeps, HasFamily, KeepsAgain, KeepsWith, KeepsNext, KeepsNothing, IfMerging}
+use Rattle.wac_merging.specs.Kept.{Keeps, HasFamily, KeepsAgain, KeepsWith, KeepsNext, TellsNext, IfMerging}
 use Rattle.wac_merging.specs.Labelled.{with_label}
 use Rattle.wac_graph_asks.specs.declared.asks.Ask.{Ask as HeldAsk}
 use Rattle.wac_graph_asks.specs.declared.asks.Asking.{Asking}
@@ -38,9 +38,9 @@ merging_holds AggregateError.OutsideFamilies h is = h
 merging_holds AggregateError.UsedWithoutIdentifier h is = h
 merging_holds AggregateError.Memory h is = absurd is
 
-pub if_conflict : {P Q : Cause ℕ → Type 0} (e : OuterError) → ((cause : Cause ℕ) → P cause → Q cause) → IfConflict e P → IfConflict e Q
-if_conflict (OuterError.ExplicitImportConflict n first second) f h = f (ExplicitImport (string_bytes n) first second) h
-if_conflict (OuterError.ImportTypeMergeConflict n first second source) f h = f (ImportTypes (string_bytes n) first second) h
+pub if_conflict : {P Q : Cause ℕ → AggregateError → Type 0} (e : OuterError) → ((cause : Cause ℕ) (source : AggregateError) → P cause source → Q cause source) → IfConflict e P → IfConflict e Q
+if_conflict (OuterError.ExplicitImportConflict n first second) f h = (h.0, f (ExplicitImport (string_bytes n) first second) h.0 h.1)
+if_conflict (OuterError.ImportTypeMergeConflict n first second source) f h = f (ImportTypes (string_bytes n) first second) source h
 if_conflict OuterError.Memory f h = tt
 
 module _ (c : Collection) (before : Kept) (first ask : HeldAsk) where
@@ -68,30 +68,30 @@ module _ (c : Collection) (before : Kept) (first ask : HeldAsk) where
 
   -- where it is refused with its family, nothing is kept with it
   module _ (g : Family) (asked : HasFamily c ask.name ask.item g) where
-    next_none : (f : Family) → before.family ≡ Some f → KeepsNothing c before f ask.item g → KeepsNone c before first ask
-    next_none f has none asks there stands well keeps = none asks [] ask.name has (asked well) keeps
+    next_none : (e : AggregateError) (f : Family) → before.family ≡ Some f → TellsNext c before f ask.item g e → KeepsNone c before first ask e
+    next_none e f has none asks there stands well keeps = none asks ask.name has (asked well) keeps
 
-    first_none : (f : Family) (with : Kept) → before.family ≡ None → HasFamily c first.name before.item f → KeepsWith before f with → with.family ≡ Some f → KeepsNothing c with f ask.item g → KeepsNone c before first ask
-    first_none f with none own keeps_with has nothing asks there stands well keeps =
+    first_none : (e : AggregateError) (f : Family) (with : Kept) → before.family ≡ None → HasFamily c first.name before.item f → KeepsWith before f with → with.family ≡ Some f → TellsNext c with f ask.item g e → KeepsNone c before first ask e
+    first_none e f with none own keeps_with has nothing asks there stands well keeps =
         let is = first_asks asks none there keeps in
         let among = subst (λ (a : Asked). Among a asks) is there in
-        nothing asks [] ask.name has (asked well) (keeps_with c asks first.name none among (own (keeps.well (asked_as c first.name before.item) among)) keeps)
+        nothing asks ask.name has (asked well) (keeps_with c asks first.name none among (own (keeps.well (asked_as c first.name before.item) among)) keeps)
 
-    pub next_refused : {T : Type 0} (r : Result T AggregateError) (f : Family) → before.family ≡ Some f → IfErr r (λ e. IfMerging e (KeepsNothing c before f ask.item g)) → IfErr r (λ e. IfMerging e (KeepsNone c before first ask))
+    pub next_refused : {T : Type 0} (r : Result T AggregateError) (f : Family) → before.family ≡ Some f → IfErr r (λ e. IfMerging e (TellsNext c before f ask.item g e)) → IfErr r (λ e. IfMerging e (KeepsNone c before first ask e))
     next_refused (Ok x) f has h = tt
-    next_refused (Err e) f has h = if_merging e (next_none f has) h
+    next_refused (Err e) f has h = if_merging e (next_none e f has) h
 
     pub first_refused : {T : Type 0} (r : Result T AggregateError) (f : Family) (with : Kept) → before.family ≡ None → HasFamily c first.name before.item f → KeepsWith before f with → with.family ≡ Some f
-        → IfErr r (λ e. IfMerging e (KeepsNothing c with f ask.item g)) → IfErr r (λ e. IfMerging e (KeepsNone c before first ask))
+        → IfErr r (λ e. IfMerging e (TellsNext c with f ask.item g e)) → IfErr r (λ e. IfMerging e (KeepsNone c before first ask e))
     first_refused (Ok x) f with none own keeps has h = tt
-    first_refused (Err e) f with none own keeps has h = if_merging e (first_none f with none own keeps has) h
+    first_refused (Err e) f with none own keeps has h = if_merging e (first_none e f with none own keeps has) h
 
   -- what does not stand was not asked
-  pub not_kept : (Stands c before.item → ⊥) → KeepsNone c before first ask
-  not_kept never asks there stands well keeps = absurd (never keeps.stands)
+  pub not_kept : (e : AggregateError) → (Stands c before.item → ⊥) → KeepsNone c before first ask e
+  not_kept e never asks there stands well keeps = absurd (never keeps.stands)
 
-  pub not_asked : (Stands c ask.item → ⊥) → KeepsNone c before first ask
-  not_asked never asks there stands well keeps = absurd (never stands)
+  pub not_asked : (e : AggregateError) → (Stands c ask.item → ⊥) → KeepsNone c before first ask e
+  not_asked e never asks there stands well keeps = absurd (never stands)
 
 pub no_family : (f : Option Family) → is_some f ≡ false → f ≡ None
 no_family None e = refl
@@ -102,16 +102,19 @@ pub takes_at : (c : Collection) (asks : List HeldAsk) (at l : ℕ) (old : List (
 takes_at c asks at l old d new before is a there after one entries b here =
     (after, subst (λ x. TakesOne c asks (lookup (λ k. l == k) old) at x d after) (same_Some a b (sym there ∙ here)) (subst (λ o. TakesOne c asks o at a d after) is one), entries)
 
-pub refuses_at : (c : Collection) (asks : List HeldAsk) (at l : ℕ) (old : List (ℕ × Taken)) (before : Option Taken) → before ≡ lookup (λ k. l == k) old → (a : HeldAsk) → slice_get asks at ≡ Some a → (cause : Cause ℕ) → RefusesOne c asks before a cause
-    → RefusesAt c asks at l old cause
-refuses_at c asks at l old before is a there cause refuses b here =
-    subst (λ x. RefusesOne c asks (lookup (λ k. l == k) old) x cause) (same_Some a b (sym there ∙ here)) (subst (λ o. RefusesOne c asks o a cause) is refuses)
+pub refuses_at : (c : Collection) (asks : List HeldAsk) (at l : ℕ) (old : List (ℕ × Taken)) (before : Option Taken) → before ≡ lookup (λ k. l == k) old → (a : HeldAsk) → slice_get asks at ≡ Some a → (cause : Cause ℕ) (source : AggregateError)
+    → RefusesOne c asks before a cause source → RefusesAt c asks at l old cause source
+refuses_at c asks at l old before is a there cause source refuses b here =
+    subst (λ x. RefusesOne c asks (lookup (λ k. l == k) old) x cause source) (same_Some a b (sym there ∙ here)) (subst (λ o. RefusesOne c asks o a cause source) is refuses)
 
 -- why the ask is refused that does not merge
 pub refuses_more : (c : Collection) (asks : List HeldAsk) (before : Taken) (first a : HeldAsk) (source : AggregateError) (e : OuterError) → ((x : HeldAsk) → slice_get asks before.first ≡ Some x → first ≡ x) → NamesConflict a first.by source e
-    → IfMerging source (KeepsNone c before.kept first a) → IfConflict e (RefusesMore c asks before a)
+    → IfMerging source (KeepsNone c before.kept first a source) → IfConflict e (RefusesMore c asks before a)
 refuses_more c asks before first a source e is names none =
-    if_conflict e (λ cause h x there. (h.0 ∙ ap (λ (y : HeldAsk). conflict_of a y.by) (is x there), subst (λ y. KeepsNone c before.kept y a) (is x there) (merging_holds source none h.1))) names
+    if_conflict e (λ cause told h x there. (
+      h.0 ∙ ap (λ (y : HeldAsk). conflict_of a y.by) (is x there),
+      subst (λ s. KeepsNone c before.kept x a s) (sym h.1) (subst (λ y. KeepsNone c before.kept y a source) (is x there) (merging_holds source none h.2)),
+    )) names
 
 pub not_memory : (e : AggregateError) → (e ≡ AggregateError.Memory → ⊥) → IsMerging e
 not_memory (AggregateError.Incompatible s) h = tt
@@ -137,9 +140,9 @@ again_err (Ok x) P e is h = absurd is
 again_err (Err f) P e is h = subst P (sym is) h
 
 -- what is no conflict claims none
-pub no_conflict : {T : Type 0} (r : Result T OuterError) (P : Cause ℕ → Type 0) → IfErr r IsNoConflict → IfErr r (λ e. IfConflict e P)
+pub no_conflict : {T : Type 0} (r : Result T OuterError) (P : Cause ℕ → AggregateError → Type 0) → IfErr r IsNoConflict → IfErr r (λ e. IfConflict e P)
 no_conflict (Ok x) P h = tt
-no_conflict (Err e) P h = if_conflict e (λ cause none. absurd none) h
+no_conflict (Err e) P h = if_conflict e (λ cause source none. absurd none) h
 
 -- ---- entries
 

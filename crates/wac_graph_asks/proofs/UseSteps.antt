@@ -1,6 +1,6 @@
 -- Single steps of listing the interfaces that are used.
 use Rattle.std.specs.List.{list_any, flat_map}
-use Rattle.std.proofs.Common.{rules, ◌≡◌, ◌↔◌, ◌⊎◌, IsTrue, ℕ, Bool, true, false, true≢false, not, ◌||◌, List, [], ◌∷◌, ◌++◌, Option, Some, None, is_some, option_map, slice_get, refl, sym, ap, subst, ◌∙◌, inl, inr, if◌then◌else◌}
+use Rattle.std.proofs.Common.{◌≡◌, ◌⊎◌, ℕ, Bool, true, false, true≢false, not, List, [], ◌∷◌, ◌++◌, Option, Some, None, is_some, option_map, slice_get, refl, sym, ap, subst, ◌∙◌, inl, inr, if◌then◌else◌}
 use Rattle.std.specs.Prelude.{option_to_list}
 use Rattle.indexmap.specs.IndexSet.{insert_key}
 use Rattle.wac_types_base.specs.declared.ids.InterfaceId.{InterfaceId}
@@ -26,7 +26,7 @@ use Rattle.wac_graph_asks.specs.declared.asks.Asking.{Asking as HeldAsking}
 use Rattle.wac_graph_asks.specs.declared.asks.Ask.{Ask as HeldAsk}
 use Rattle.wac_graph_asks.specs.AskedUses.{all_with_used, used_directly, used_by_world, used_by_items, use_asks}
 use Rattle.wac_graph_asks.proofs.Using.{instance_uses, interface_uses, identified, interface_definition_uses, world_definition_uses, world_uses_again, other_definition_uses}
-use Rattle.wac_types_parts.proofs.Ids.{same_interface, any_interface}
+use Rattle.wac_types_parts.proofs.Ids.{any_interface}
 
 -- ---- what was seen
 

@@ -11,6 +11,7 @@ use Rattle.wac_types_base.specs.Collection.{Stands, IsAcyclic, Grows}
 use Rattle.wac_types_base.specs.Copying.{IsCopy}
 use Rattle.wac_types_base.specs.Stated.{stated_of, identifier_of}
 use Rattle.wac_types_names.specs.Packaged.{Packaged}
+use Rattle.wac_types_merge.specs.declared.errors.AggregateError.{AggregateError}
 use Rattle.wac_graph_core.specs.declared.ids.PackageId.{PackageId}
 use Rattle.wac_graph_core.specs.contracts.ids.PackageIdPartialEq.TheImpl.{eq-value}
 use Rattle.wac_graph_core.specs.Graph.{Graph, package_of}
@@ -19,6 +20,7 @@ use Rattle.wac_composition.specs.Asks.{Ask, named_asks, asks_to_use}
 use Rattle.wac_composition.specs.Conflicts.{merge_conflict}
 use Rattle.wac_composition.specs.OuterImports.{outer_imports}
 use Rattle.wac_composition.specs.Again.{IsWell, KeepsClasses}
+use Rattle.wac_merging.specs.Unmerged.{TellsConflict}
 use Rattle.wac_graph_asks.specs.declared.asks.Ask.{Ask as HeldAsk}
 use Rattle.wac_graph_asks.specs.declared.asks.Definition.{Definition}
 use Rattle.wac_graph_asks.specs.declared.asks.Asked.{Asked}
@@ -53,6 +55,11 @@ Asked_once_imports A = (asks list : List (Ask A)) → IsAskedOnce asks list → 
 abbrev pub Asked_once_conflicts : Type 0 → Type 0
 Asked_once_conflicts A = (asks list : List (Ask A)) → IsAskedOnce asks list → ((a : Ask A) → Among a list → IsWell a.item)
     → merge_conflict asks [] asks ≡ merge_conflict list [] list
+
+-- What is told of its conflict is told of theirs.
+abbrev pub Asked_once_tells : Type 0 → Type 0
+Asked_once_tells A = (e : AggregateError) (asks list : List (Ask A)) → IsAskedOnce asks list
+    → ((a : Ask A) → Among a list → IsWell a.item) → TellsConflict e list → TellsConflict e asks
 
 -- ---- packages
 

@@ -10,6 +10,7 @@ use Rattle.wac_types_base.specs.Graph.{Among}
 use Rattle.wac_types_base.specs.Collection.{Stands}
 use Rattle.wac_types_parts.specs.Parts.{imports_of}
 use Rattle.wac_types_parts.specs.declared.called.Called.{Called}
+use Rattle.wac_types_merge.specs.declared.errors.AggregateError.{AggregateError}
 use Rattle.wac_composition.specs.Asks.{Ask}
 use Rattle.wac_composition.specs.Conflicts.{Cause}
 use Rattle.wac_merging.specs.declared.kept.Kept.{Kept}
@@ -79,8 +80,8 @@ abbrev pub MakesWorld : (old : Asked) → Classes → List (ℕ × Taken) → (n
 MakesWorld old classes taken new w = MakesImports old classes taken new (imports_of new.types w)
 
 -- an ask of these classes is refused
-abbrev pub RefusesIn : Asked → Classes → Cause ℕ → Type 0
-RefusesIn asked classes cause = RefusesAll asked.types asked.asks.items classes.labels.items cause
+abbrev pub RefusesIn : Asked → Classes → Cause ℕ → AggregateError → Type 0
+RefusesIn asked classes cause source = RefusesAll asked.types asked.asks.items classes.labels.items cause source
 
 -- ---- names
 

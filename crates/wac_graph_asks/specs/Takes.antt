@@ -19,6 +19,7 @@ use Rattle.wac_merging.specs.Named.{NamesDiffer}
 use Rattle.wac_merging.specs.Asking.{asked_as}
 use Rattle.wac_merging.specs.Kept.{Keeps, KeepsFirst}
 use Rattle.wac_merging.specs.Labelled.{labelled, each_label, AreLabels, AreKept}
+use Rattle.wac_merging.specs.Unmerged.{TellsUnmerged, TellsConflict}
 use Rattle.wac_graph_asks.specs.declared.asks.Ask.{Ask as HeldAsk}
 use Rattle.wac_graph_asks.specs.declared.asks.Asking.{Asking as HeldAsking}
 use Rattle.wac_graph_asks.specs.declared.asks.Asked.{Asked}
@@ -105,15 +106,16 @@ conflict_by k a first = ImportTypes a.name first a.by
 abbrev pub conflict_of : HeldAsk → (first : ℕ) → Cause ℕ
 conflict_of a first = conflict_by a.asking a first
 
--- where it is refused for what was asked, this holds of its cause
-abbrev pub IfConflict : OuterError → (Cause ℕ → Type 0) → Type 0
-IfConflict (OuterError.ExplicitImportConflict n first second) P = P (ExplicitImport (string_bytes n) first second)
-IfConflict (OuterError.ImportTypeMergeConflict n first second source) P = P (ImportTypes (string_bytes n) first second)
+-- where it is refused for what was asked, this holds of its cause and its source; that of an import by its name is not handed on
+abbrev pub IfConflict : OuterError → (Cause ℕ → AggregateError → Type 0) → Type 0
+IfConflict (OuterError.ExplicitImportConflict n first second) P =
+    (source : AggregateError) × P (ExplicitImport (string_bytes n) first second) source
+IfConflict (OuterError.ImportTypeMergeConflict n first second source) P = P (ImportTypes (string_bytes n) first second) source
 IfConflict OuterError.Memory P = Unit {0}
 
 -- it is refused for want of memory alone
 abbrev pub IsNoConflict : OuterError → Type 0
-IsNoConflict e = IfConflict e (λ cause. ⊥)
+IsNoConflict e = IfConflict e (λ cause source. ⊥)
 
 -- no want of memory
 abbrev pub IsMerging : AggregateError → Type 0
@@ -121,28 +123,30 @@ IsMerging AggregateError.Memory = ⊥
 IsMerging e = Unit {0}
 
 abbrev pub NamesConflict : HeldAsk → (first : ℕ) → AggregateError → OuterError → Type 0
-NamesConflict a first source e = IfConflict e (λ cause. (cause ≡ conflict_of a first) × IsMerging source)
+NamesConflict a first source e =
+    IfConflict e (λ cause told. (cause ≡ conflict_of a first) × (told ≡ source) × IsMerging source)
 
--- with this ask nothing is kept of what was asked before, where the first is among that
-abbrev pub KeepsNone : Collection → Kept → (first ask : HeldAsk) → Type 0
-KeepsNone c before first ask = (asks : List AskedPair) → Among (pair_in c first) asks → Stands c ask.item
-    → IsWell (stated_of c ask.item) → Keeps c asks before → kept (asks ++ pair_in c ask ∷ []) ≡ None
+-- With this ask nothing is kept of what was asked before, where the first is among that; and the source tells how they are apart.
+abbrev pub KeepsNone : Collection → Kept → (first ask : HeldAsk) → (source : AggregateError) → Type 0
+KeepsNone c before first ask source = (asks : List AskedPair) → Among (pair_in c first) asks → Stands c ask.item
+    → IsWell (stated_of c ask.item) → Keeps c asks before → TellsUnmerged source asks (pair_in c ask)
 
-abbrev pub RefusesMore : Collection → List HeldAsk → Taken → HeldAsk → Cause ℕ → Type 0
-RefusesMore c asks before a cause =
-    (x : HeldAsk) → slice_get asks before.first ≡ Some x → (cause ≡ conflict_of a x.by) × KeepsNone c before.kept x a
+abbrev pub RefusesMore : Collection → List HeldAsk → Taken → HeldAsk → Cause ℕ → AggregateError → Type 0
+RefusesMore c asks before a cause source =
+    (x : HeldAsk) → slice_get asks before.first ≡ Some x → (cause ≡ conflict_of a x.by) × KeepsNone c before.kept x a source
 
 -- a first ask is not refused
-abbrev pub RefusesOne : Collection → List HeldAsk → Option Taken → HeldAsk → Cause ℕ → Type 0
-RefusesOne c asks None a cause = ⊥
-RefusesOne c asks (Some before) a cause = RefusesMore c asks before a cause
+abbrev pub RefusesOne : Collection → List HeldAsk → Option Taken → HeldAsk → Cause ℕ → AggregateError → Type 0
+RefusesOne c asks None a cause source = ⊥
+RefusesOne c asks (Some before) a cause source = RefusesMore c asks before a cause source
 
-abbrev pub RefusesAt : Collection → List HeldAsk → (at class : ℕ) → List (ℕ × Taken) → Cause ℕ → Type 0
-RefusesAt c asks at class old cause =
-    (a : HeldAsk) → slice_get asks at ≡ Some a → RefusesOne c asks (lookup (λ k. class == k) old) a cause
+abbrev pub RefusesAt : Collection → List HeldAsk → (at class : ℕ) → List (ℕ × Taken) → Cause ℕ → AggregateError → Type 0
+RefusesAt c asks at class old cause source =
+    (a : HeldAsk) → slice_get asks at ≡ Some a → RefusesOne c asks (lookup (λ k. class == k) old) a cause source
 
--- Those before an ask keep something in turn, by their labels, and with it those of its label keep nothing.
-pub record RefusesAsk (asks : List (Ask ℕ)) (labels : List ℕ) (cause : Cause ℕ) : Type 0 where
+-- Those before an ask keep something in turn, by their labels, and with it those of its label keep nothing; the source tells how
+-- they are apart.
+pub record RefusesAsk (asks : List (Ask ℕ)) (labels : List ℕ) (cause : Cause ℕ) (source : AggregateError) : Type 0 where
   pub before : List (Ask ℕ)
   pub ask : Ask ℕ
   pub later : List (Ask ℕ)
@@ -154,10 +158,12 @@ pub record RefusesAsk (asks : List (Ask ℕ)) (labels : List ℕ) (cause : Cause
   pub as_many : length labels_before ≡ length before
   pub in_turn : AreKept before labels_before
   pub nothing : kept (asked_in (labelled label (before ++ ask ∷ []) (labels_before ++ label ∷ []))) ≡ None
+  pub tells : TellsUnmerged source (asked_in (labelled label before labels_before)) (ask.name, ask.item)
   pub is : Some cause ≡ merge_cause ask.asking ask (labelled label (before ++ ask ∷ []) (labels_before ++ label ∷ []))
 
-abbrev pub RefusesAll : Collection → List HeldAsk → List ℕ → Cause ℕ → Type 0
-RefusesAll c held labels cause = AreSound c held → length labels ≡ length held → RefusesAsk (asks_in c held) labels cause
+abbrev pub RefusesAll : Collection → List HeldAsk → List ℕ → Cause ℕ → AggregateError → Type 0
+RefusesAll c held labels cause source =
+    AreSound c held → length labels ≡ length held → RefusesAsk (asks_in c held) labels cause source
 
 abbrev pub HasNoneLabelled : Collection → List HeldAsk → List ℕ → Type 0
 HasNoneLabelled c held labels =
@@ -169,8 +175,12 @@ HasNoneLabelled c held labels =
 abbrev pub conflict_in : Graph → Option (Cause ℕ)
 conflict_in g = merge_conflict (asks_of (composition_of g)) [] (asks_of (composition_of g))
 
-abbrev pub ConflictsFor : Asked → Cause ℕ → Type 0
-ConflictsFor a cause = (g : Graph) → IsAsked g a → conflict_in g ≡ Some cause
+-- the source tells how the ask that conflicts first is apart from those before it in its class
+abbrev pub TellsConflictIn : Graph → AggregateError → Type 0
+TellsConflictIn g source = TellsConflict source (asks_of (composition_of g))
+
+abbrev pub ConflictsFor : Asked → Cause ℕ → AggregateError → Type 0
+ConflictsFor a cause source = (g : Graph) → IsAsked g a → (conflict_in g ≡ Some cause) × TellsConflictIn g source
 
 abbrev pub HasNoConflict : Asked → Type 0
 HasNoConflict a = (g : Graph) → IsAsked g a → conflict_in g ≡ None

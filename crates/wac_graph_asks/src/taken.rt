@@ -78,7 +78,7 @@ fn kept_more(
     requires kept { Stands types.old before.item }
     requires asked { Stands types.old ask.now.item }
     ensures more { IfOk result (KeepsMore types.old before first.now ask.now types.new) }
-    ensures none { IfErr result (λ e. IfMerging e (KeepsNone types.old before first.now ask.now)) }
+    ensures none { IfErr result (λ e. IfMerging e (KeepsNone types.old before first.now ask.now e)) }
     ensures grows { Grows types.old types.new }
 {
     types.see_acyclic();
@@ -102,7 +102,7 @@ fn kept_after(
     ask: &Ask,
 ) -> Result<Kept, AggregateError>
     ensures more { IfOk result (KeepsMore types.old before first.now ask.now types.new) }
-    ensures none { IfErr result (λ e. IfMerging e (KeepsNone types.old before first.now ask.now)) }
+    ensures none { IfErr result (λ e. IfMerging e (KeepsNone types.old before first.now ask.now e)) }
     ensures grows { Grows types.old types.new }
 {
     types.see_acyclic();

@@ -2,6 +2,7 @@
 use Rattle.std.proofs.Common.{◌≡◌, ◌==◌, ℕ, Bool, true, false, true≢false, is_some, cond, List, [], ◌∷◌, ◌++◌, Option, Some, None, refl, sym, ap, ◌∙◌}
 use Rattle.std.specs.Cmp.Lexicographic.{pointwise, same_text}
 use Rattle.wac_types_base.specs.Entries.{Name, value_at, put_entry}
+use Rattle.wac_types_base.proofs.Lists.{value_both}
 use Rattle.std.specs.Option.{option_or}
 use Rattle.wac_graph_causes.specs.Firsts.{AddsFirst, AreFirst}
 
@@ -18,14 +19,6 @@ module _ {X : Type 0} where
   or_there None p h = absurd (true≢false (sym h))
   or_there (Some x) p h = refl
 
-value_behind : (xs ys : List (Name × ℕ)) (n : Name) → value_at (xs ++ ys) n ≡ option_or (value_at xs n) (value_at ys n)
-value_behind [] ys n = refl
-value_behind (x ∷ xs) ys n = go (pointwise ◌==◌ n x.0) (value_behind xs ys n)
-  where
-    go : (b : Bool) → value_at (xs ++ ys) n ≡ option_or (value_at xs n) (value_at ys n) → cond b (Some x.1) (value_at (xs ++ ys) n) ≡ option_or (cond b (Some x.1) (value_at xs n)) (value_at ys n)
-    go true h = refl
-    go false h = h
-
 -- a new name is put last
 put_last : (xs : List (Name × ℕ)) (n : Name) (v : ℕ) → is_some (value_at xs n) ≡ false → put_entry xs n v ≡ xs ++ (n, v) ∷ []
 put_last [] n v h = refl
@@ -36,7 +29,7 @@ put_last (x ∷ xs) n v h = go (pointwise ◌==◌ n x.0) h (put_last xs n v)
     go false e rest = ap (λ l. x ∷ l) (rest e)
 
 pub first_put : (old new : List (Name × ℕ)) (n : Name) (v : ℕ) → is_some (value_at old n) ≡ false → new ≡ put_entry old n v → AddsFirst old new ((n, v) ∷ [])
-first_put old new n v h is m = ap (λ l. value_at l m) (is ∙ put_last old n v h) ∙ value_behind old ((n, v) ∷ []) m
+first_put old new n v h is m = ap (λ l. value_at l m) (is ∙ put_last old n v h) ∙ value_both old ((n, v) ∷ []) m
 
 pub first_kept : (old : List (Name × ℕ)) (n : Name) (v : ℕ) → is_some (value_at old n) ≡ true → AddsFirst old old ((n, v) ∷ [])
 first_kept old n v h m = go (pointwise ◌==◌ m n) refl
@@ -50,11 +43,11 @@ adds_nothing old n = sym (or_nothing (value_at old n))
 
 pub adds_then : (old mid new xs ys : List (Name × ℕ)) → AddsFirst old mid xs → AddsFirst mid new ys → AddsFirst old new (xs ++ ys)
 adds_then old mid new xs ys f g n =
-    g n ∙ ap (λ o. option_or o (value_at ys n)) (f n) ∙ or_assoc (value_at old n) (value_at xs n) (value_at ys n) ∙ ap (option_or (value_at old n)) (sym (value_behind xs ys n))
+    g n ∙ ap (λ o. option_or o (value_at ys n)) (f n) ∙ or_assoc (value_at old n) (value_at xs n) (value_at ys n) ∙ ap (option_or (value_at old n)) (sym (value_both xs ys n))
 
 -- from nothing on, all are there
 pub adds_all : (old new all : List (Name × ℕ)) → old ≡ [] → AddsFirst old new all → AreFirst new all
 adds_all old new all is h n = h n ∙ ap (λ l. option_or (value_at l n) (value_at all n)) is
 
 pub more_first : (old new xs ys : List (Name × ℕ)) → AreFirst old xs → AddsFirst old new ys → AreFirst new (xs ++ ys)
-more_first old new xs ys f g n = g n ∙ ap (λ o. option_or o (value_at ys n)) (f n) ∙ sym (value_behind xs ys n)
+more_first old new xs ys f g n = g n ∙ ap (λ o. option_or o (value_at ys n)) (f n) ∙ sym (value_both xs ys n)

@@ -12,11 +12,14 @@ use Rattle.wac_types_base.proofs.Copying.{last_place}
 use Rattle.wac_composition.specs.Asks.{Asking, ByName, ToFill, ToUse, Ask}
 use Rattle.wac_composition.specs.Classes.{class}
 use Rattle.std.specs.Option.{option_or}
+use Rattle.wac_composition.specs.OuterImports.{asked_in}
 use Rattle.wac_composition.specs.Conflicts.{Cause, merge_cause, merge_fails, those_in, merge_conflict}
 use Rattle.wac_composition.proofs.Closures.{any_among, among_any}
 use Rattle.wac_composition.proofs.OuterClasses.{class_same, within, class_itself, class_by_name}
 use Rattle.wac_composition.proofs.ClassLaws.{in_class_linked, linked_in_class}
 use Rattle.wac_merging.specs.Labelled.{labelled, LabelClasses, AreKept, none_asked, one_more_kept, Kept_have_no_conflict, Refused_is_conflict}
+use Rattle.wac_merging.specs.Unmerged.{TellsUnmerged, Refused_is_told}
+use Rattle.wac_merging.proofs.Repeated.{conflict_split}
 use Rattle.wac_merging.proofs.Labels.{one_more_labelled, passing_labelled, IsAt, at_among, one_label, linked}
 
 module _ {A : Type 0} (all : List (Ask A)) (labels : List ℕ) (c : LabelClasses all labels) where
@@ -63,6 +66,11 @@ module _ {A : Type 0} (all : List (Ask A)) (labels : List ℕ) (c : LabelClasses
     those_are : those_in (class all a) first ≡ labelled l first firsts
     those_are = passing_labelled (named_in a) l first firsts as_many_firsts (λ j b m p q. name_test a b l m last_at (record { place = j; ask = ask_at j b p; label = label_at j m q }))
 
+    -- those before the last
+    those_before : those_in (class all a) asks ≡ labelled l asks ls
+    those_before = passing_labelled (named_in a) l asks ls as_many
+        (λ j b m p q. name_test a b l m last_at (record { place = j; ask = ask_at j b (slice_get-left asks (a ∷ []) j b p); label = label_at j m (slice_get-left ls (l ∷ []) j m q) }))
+
   kept_as_many : (asks : List (Ask A)) (ls : List ℕ) → AreKept asks ls → length ls ≡ length asks
   kept_as_many asks ls none_asked = refl
   kept_as_many asks ls (one_more_kept bs ms a l k e) = length-append ms (l ∷ []) ∙ ap (λ n. n + 1) (kept_as_many bs ms k) ∙ sym (length-append bs (a ∷ []))
@@ -75,6 +83,16 @@ module _ {A : Type 0} (all : List (Ask A)) (labels : List ℕ) (c : LabelClasses
       conflict_behind bs (a ∷ rest) ms (l ∷ more) k (is ∙ append_assoc bs (a ∷ []) rest) (are ∙ append_assoc ms (l ∷ []) more)
       ∙ ap (λ as_. option_or (merge_fails a as_) (merge_conflict all (bs ++ a ∷ []) rest)) those
       ∙ ap (λ b. option_or (if b then None else merge_cause a.asking a (labelled l (bs ++ a ∷ []) (ms ++ l ∷ []))) (merge_conflict all (bs ++ a ∷ []) rest)) e
+
+  -- asks that are kept do not conflict, whatever is asked behind them
+  none_behind : (asks rest : List (Ask A)) (ls more : List ℕ) → AreKept asks ls → all ≡ asks ++ rest → labels ≡ ls ++ more → merge_conflict all [] asks ≡ None
+  none_behind asks rest ls more none_asked is are = refl
+  none_behind asks rest ls more (one_more_kept bs ms a l k e) is are =
+      let those = those_are bs rest ms more a l (kept_as_many bs ms k) is are in
+      conflict_split all [] bs (a ∷ [])
+      ∙ ap (λ o. option_or o (merge_conflict all bs (a ∷ []))) (none_behind bs (a ∷ rest) ms (l ∷ more) k (is ∙ append_assoc bs (a ∷ []) rest) (are ∙ append_assoc ms (l ∷ []) more))
+      ∙ ap (λ as_. option_or (merge_fails a as_) None) those
+      ∙ ap (λ b. option_or (if b then None else merge_cause a.asking a (labelled l (bs ++ a ∷ []) (ms ++ l ∷ []))) None) e
 
 pub kept_have_no_conflict : {A : Type 0} → Kept_have_no_conflict A
 kept_have_no_conflict asks labels c k = conflict_behind asks labels c asks [] labels [] k (sym (nothing_behind asks)) (sym (nothing_behind labels))
@@ -103,3 +121,16 @@ refused_is_conflict {A} asks later ls more a l c as_many k e =
     ∙ ap (λ as_. option_or (merge_fails a as_) rest) those
     ∙ ap (λ o. option_or (if is_some o then None else merge_cause a.asking a of_label) rest) e
     ∙ ap (λ as_. option_or (merge_cause a.asking a as_) rest) last ∙ or_cause a.asking a (labelled l asks ls) a rest ∙ ap (merge_cause a.asking a) (sym last)
+
+pub refused_is_told : {A : Type 0} → Refused_is_told A
+refused_is_told {A} e asks later ls more a l c as_many k t =
+    let all : List (Ask A) = asks ++ a ∷ later in
+    let those = those_before all (ls ++ l ∷ more) c asks later ls more a l as_many (sym (append_assoc asks (a ∷ []) later)) (sym (append_assoc ls (l ∷ []) more)) in
+    record {
+      before = asks;
+      ask = a;
+      later = later;
+      are = refl;
+      none_before = none_behind all (ls ++ l ∷ more) c asks (a ∷ later) ls (l ∷ more) k refl refl;
+      tells = subst (λ (as_ : List (Ask A)). TellsUnmerged e (asked_in as_) (a.name, a.item)) (sym those) t;
+    }

@@ -7,9 +7,9 @@ use Rattle.wac_types_base.specs.Entries.{Name}
 use Rattle.wac_types_base.specs.Collection.{IsAcyclic, Grows}
 use Rattle.wac_types_merge.specs.declared.errors.AggregateError.{AggregateError}
 use Rattle.wac_types_merge.specs.declared.family.Family.{Family}
-use Rattle.wac_types_merge.specs.Errors.{Refuses}
+use Rattle.wac_types_merge.specs.Errors.{Refuses, LeadsTo}
 use Rattle.wac_types_merge.specs.Families.{UsesUnnamed, joint}
-use Rattle.wac_types_merge.specs.Interfaces.{MeetIn}
+use Rattle.wac_types_merge.specs.Interfaces.{MeetIn, LeadsIn}
 use Rattle.wac_types_merge.specs.Imports.{IsNarrower, IsSpelled}
 use Rattle.wac_types_merge.specs.Steps.{HasClash, LieOutside}
 use Rattle.wac_types_merge.specs.United.{UnitesIn}
@@ -18,8 +18,8 @@ use Rattle.wac_composition.specs.Merging.{Asked}
 use Rattle.wac_merging.specs.declared.kept.Kept.{Kept}
 use Rattle.wac_merging.specs.Families.{NamesUses}
 use Rattle.wac_merging.specs.Asking.{asked_as, IsOfFamily, IsTaken}
-use Rattle.wac_merging.specs.Kept.{KeepsNothing, IfMerging, Spells}
-use Rattle.wac_merging.proofs.Taking.{next_is_taken, refused_keeps_nothing, kept_is_identified, spelled_is_identified}
+use Rattle.wac_merging.specs.Kept.{KeepsNothing, TellsNext, IfMerging, Spells}
+use Rattle.wac_merging.proofs.Taking.{next_is_taken, refused_keeps_nothing, told_next, kept_is_identified, spelled_is_identified}
 
 -- ---- uses
 
@@ -54,6 +54,14 @@ module _ (c : Collection) (acyclic : IsAcyclic c) (before : Kept) (f g h : Famil
       refused_keeps_nothing c asks later before.several n before.item j f g acyclic (with_family c asks before.several before.item before.family (Some f) family t) o (inr (subst (λ h. LieOutside c h before.item j) is r))
   nothing_kept AggregateError.UsedWithoutIdentifier r = absurd r
   nothing_kept AggregateError.Memory r = tt
+
+  pub next_told : (e : AggregateError) → Refuses e (HasClash c h before.item j) (LieOutside c h before.item j) ⊥ → LeadsTo e (LeadsIn c before.item j) → IfMerging e (TellsNext c before f j g e)
+  next_told (AggregateError.Incompatible x) r l = λ asks n family o t.
+      told_next c asks before.several n before.item j f g acyclic (with_family c asks before.several before.item before.family (Some f) family t) o (AggregateError.Incompatible x) (subst (λ h. HasClash c h before.item j) is r) l
+  next_told AggregateError.OutsideFamilies r l = λ asks n family o t.
+      told_next c asks before.several n before.item j f g acyclic (with_family c asks before.several before.item before.family (Some f) family t) o AggregateError.OutsideFamilies (subst (λ h. LieOutside c h before.item j) is r) tt
+  next_told AggregateError.UsedWithoutIdentifier r l = absurd r
+  next_told AggregateError.Memory r l = tt
 
 -- ---- the outer import
 

@@ -1,16 +1,19 @@
 -- An ask that repeats one before it conflicts with none, and changes no conflict.
-use Rattle.std.specs.Prelude.{bytes_eq, cond, filter, is_some, if◌then◌else◌}
+use Rattle.std.specs.Prelude.{bytes_eq, cond, filter, is_some, if◌then◌else◌, ◌||◌}
 use Rattle.std.proofs.Common.{◌≡◌, List, [], ◌∷◌, ◌++◌, append_assoc, Bool, true, false, Option, Some, None, ◌⊎◌, refl, sym, ap, subst, ◌∙◌, inl, inr}
-use Rattle.std.specs.List.{list_any}
+use Rattle.std.specs.List.{list_all, list_any}
 use Rattle.std.specs.Cmp.Derive.{one_truth}
 use Rattle.std.proofs.lemmas.Option.{none-some}
-use Rattle.std.proofs.lemmas.List.{append-nil}
+use Rattle.std.proofs.lemmas.List.{append-nil, map-append}
 use Rattle.std.proofs.lemmas.Slice.Eq.{bytes_eq-Decides}
 use Rattle.wac_types_base.specs.Graph.{Among}
 use Rattle.wac_types_base.proofs.Adding.{Among-left, Among-right}
+use Rattle.wac_types_base.proofs.Lists.{among_mapped}
+use Rattle.wac_types_base.specs.Tree.{tree}
+use Rattle.wac_types_merge.specs.declared.errors.AggregateError.{AggregateError}
 use Rattle.wac_composition.specs.Asks.{Asking, ByName, ToFill, ToUse, Ask}
 use Rattle.wac_composition.specs.Classes.{class}
-use Rattle.wac_composition.specs.Merging.{kept}
+use Rattle.wac_composition.specs.Merging.{is_plain, is_wit, Asked, in_family, kept}
 use Rattle.wac_composition.specs.Again.{IsWell, KeepsClasses}
 use Rattle.wac_composition.specs.OuterImports.{asked_in}
 use Rattle.std.specs.Option.{option_or}
@@ -18,8 +21,46 @@ use Rattle.wac_composition.specs.Conflicts.{Cause, merge_cause, merge_fails, tho
 use Rattle.wac_composition.proofs.Closures.{any_among, among_any, filter_among, among_filter, filter_same}
 use Rattle.wac_composition.proofs.OuterClasses.{class_same, within, class_itself, class_by_name}
 use Rattle.wac_composition.proofs.AskedAgain.{asked_again, filter_append, kept_again, among_more, among_fewer}
+use Rattle.wac_composition.proofs.Again.{asking_twice}
+use Rattle.wac_composition.proofs.Lists.{mapped_among}
 use Rattle.wac_composition.proofs.Against.{or_none}
 use Rattle.wac_merging.specs.Repeated.{Repeated_conflicts_no_more}
+use Rattle.wac_merging.specs.Unmerged.{TellsApart, TellsUnmerged, TellsConflict, Repeated_is_told}
+use Rattle.wac_merging.proofs.Wit.{all_of, of_all}
+
+-- ---- what is told of asks of which one is repeated
+
+-- all pass where one of them comes again exactly where they did
+all_again : (p : Asked → Bool) (xs ys : List Asked) (a : Asked) → Among a xs → list_all p (xs ++ a ∷ ys) ≡ list_all p (xs ++ ys)
+all_again p xs ys a m = one_truth (list_all p (xs ++ a ∷ ys)) (list_all p (xs ++ ys))
+    (λ e. all_of p (xs ++ ys) (λ b n. of_all p (xs ++ a ∷ ys) e b (among_more xs ys a b n)))
+    (λ e. all_of p (xs ++ a ∷ ys) (λ b n. elim (among_fewer xs ys a b n) [ inl k ↦ of_all p (xs ++ ys) e b k | inr q ↦ ap p q ∙ of_all p (xs ++ ys) e a (Among-left a xs ys m) ]))
+
+family_again : (xs ys : List Asked) (a : Asked) → Among a xs → in_family (xs ++ a ∷ ys) ≡ in_family (xs ++ ys)
+family_again xs ys a m = λ i. all_again (λ b. is_plain b.1) xs ys a m i || all_again (λ b. is_wit b.0 b.1) xs ys a m i
+
+unmerged_again : (e : AggregateError) (xs ys : List Asked) (a ask : Asked) → Among a xs → ((b : Asked) → Among b xs → IsWell b.1) → TellsUnmerged e (xs ++ ys) ask → TellsUnmerged e (xs ++ a ∷ ys) ask
+unmerged_again e xs ys a ask m well t =
+    let more = append_assoc xs (a ∷ ys) (ask ∷ []) in
+    let less = append_assoc xs ys (ask ∷ []) in
+    record {
+      item = t.item;
+      so_far = asking_twice xs ys a m well ∙ t.so_far;
+      nothing = ap kept more ∙ asking_twice xs (ys ++ ask ∷ []) a m well ∙ ap kept (sym less) ∙ t.nothing;
+      apart = subst (λ b. TellsApart e b (tree t.item) (tree ask.1)) (ap in_family less ∙ sym (family_again xs (ys ++ ask ∷ []) a m) ∙ ap in_family (sym more)) t.apart;
+    }
+
+-- where an element of two lists stands, in the first or in the second
+abbrev StandsIn : {X : Type 0} (bs as_ ps : List X) (x : X) (qs : List X) → Type 0
+StandsIn {X} bs as_ ps x qs = ((ms : List X) × (bs ≡ ps ++ x ∷ ms) × (qs ≡ ms ++ as_)) ⊎ ((ms : List X) × (ps ≡ bs ++ ms) × (as_ ≡ ms ++ x ∷ qs))
+
+stands_in : {X : Type 0} (bs as_ ps : List X) (x : X) (qs : List X) → bs ++ as_ ≡ ps ++ x ∷ qs → StandsIn bs as_ ps x qs
+stands_in [] as_ ps x qs e = inr (ps, refl, e)
+stands_in (b ∷ bs) as_ [] x qs e = inl (bs, cc e, cc e)
+stands_in (b ∷ bs) as_ (p ∷ ps) x qs e = elim (stands_in bs as_ ps x qs (cc e)) [
+  | inl s ↦ inl (s.0, (let h : b ≡ p = cc e in λ i. h i ∷ s.1 i), s.2)
+  | inr s ↦ inr (s.0, (let h : p ≡ b = cc e in λ i. h i ∷ s.1 i), s.2)
+]
 
 -- ---- causes
 
@@ -49,7 +90,7 @@ module _ {A : Type 0} where
       go true q = refl
       go false q = absurd (no_cause a.asking a xs b m q)
 
-  conflict_split : (all pre ds rest : List (Ask A)) → merge_conflict all pre (ds ++ rest) ≡ option_or (merge_conflict all pre ds) (merge_conflict all (pre ++ ds) rest)
+  pub conflict_split : (all pre ds rest : List (Ask A)) → merge_conflict all pre (ds ++ rest) ≡ option_or (merge_conflict all pre ds) (merge_conflict all (pre ++ ds) rest)
   conflict_split all pre [] rest = ap (λ xs. merge_conflict all xs rest) (sym (append-nil pre))
   conflict_split all pre (d ∷ ds) rest =
       let fails = merge_fails d (those_in (class all d) (pre ++ d ∷ [])) in
@@ -193,6 +234,81 @@ module _ {A : Type 0} where
             λ i. option_or (firsts_same i) (rest i)
         go (Some x) e =
             ap (λ o. option_or o (merge_conflict more before (a ∷ after))) e ∙ ap (λ o. option_or o (merge_conflict asks before after)) (sym (sym firsts_same ∙ e))
+
+    -- those asked before are well, in their pairs too
+    pairs_well : (cs : List (Ask A)) (p : Asked) → Among p (asked_in (firsts cs)) → IsWell p.1
+    pairs_well cs p m =
+        let r = mapped_among (λ (c : Ask A). (c.name, c.item)) (firsts cs) p m in
+        subst (λ (q : Asked). IsWell q.1) (sym r.2) (well r.0 (filter_among (named cs) before r.0 r.1).0)
+
+    -- what is told of an ask behind it, of asks of a class
+    told_behind : (e : AggregateError) (cs xs : List (Ask A)) (ask : Asked) → TellsUnmerged e (asked_in (those_in cs (before ++ xs))) ask → TellsUnmerged e (asked_in (those_in cs (before ++ a ∷ xs))) ask
+    told_behind e cs xs ask t =
+        subst (λ ys. TellsUnmerged e (asked_in ys) ask) (sym (filter_append (named cs) before (a ∷ xs)))
+        (go (named cs a) refl (subst (λ ys. TellsUnmerged e (asked_in ys) ask) (filter_append (named cs) before xs) t))
+      where
+        go : (c : Bool) → named cs a ≡ c → TellsUnmerged e (asked_in (firsts cs ++ filter (named cs) xs)) ask → TellsUnmerged e (asked_in (firsts cs ++ cond c (a ∷ filter (named cs) xs) (filter (named cs) xs))) ask
+        go false q u = u
+        go true q u =
+            let m = among_filter (named cs) before b there (ap (λ n. list_any (λ c. bytes_eq n c.name) cs) names ∙ q) in
+            let pair : Asked = (a.name, a.item) in
+            let twin_pair = subst (λ p. Among p (asked_in (firsts cs))) (λ i. (names i, items i)) (among_mapped (λ (c : Ask A). (c.name, c.item)) (firsts cs) b m) in
+            let without = map-append (λ (c : Ask A). (c.name, c.item)) (firsts cs) (filter (named cs) xs) in
+            let along = map-append (λ (c : Ask A). (c.name, c.item)) (firsts cs) (a ∷ filter (named cs) xs) in
+            subst (λ ys. TellsUnmerged e ys ask) (sym along)
+            (unmerged_again e (asked_in (firsts cs)) (asked_in (filter (named cs) xs)) pair ask twin_pair (pairs_well cs) (subst (λ ys. TellsUnmerged e ys ask) without u))
+
+    -- an ask before it conflicts, or one behind it
+    told_same : (e : AggregateError) → TellsConflict e asks → TellsConflict e more
+    told_same e t = elim (stands_in before after t.before t.ask t.later t.are) [ inl s ↦ first s.0 s.1 | inr s ↦ second s.0 s.1 s.2 ]
+      where
+        among : Among t.ask asks
+        among = subst (Among t.ask) (sym t.are) (Among-right t.ask t.before (t.ask ∷ t.later) (inl refl))
+
+        each : (d : Ask A) → Among d t.before → Among d asks
+        each d m = subst (Among d) (sym t.are) (Among-left d t.before (t.ask ∷ t.later) m)
+
+        first : (ms : List (Ask A)) → before ≡ t.before ++ t.ask ∷ ms → TellsConflict e more
+        first ms is = record {
+          before = t.before;
+          ask = t.ask;
+          later = ms ++ a ∷ after;
+          are = ap (λ xs. xs ++ a ∷ after) is ∙ append_assoc t.before (t.ask ∷ ms) (a ∷ after);
+          none_before = before_same [] t.before each ∙ t.none_before;
+          tells = subst (λ xs. TellsUnmerged e (asked_in xs) (t.ask.name, t.ask.item)) (sym (those_same t.ask t.before among)) t.tells;
+        }
+
+        second : (ms : List (Ask A)) → t.before ≡ before ++ ms → after ≡ ms ++ t.ask ∷ t.later → TellsConflict e more
+        second ms is are = record {
+          before = before ++ a ∷ ms;
+          ask = t.ask;
+          later = t.later;
+          are = ap (λ xs. before ++ a ∷ xs) are ∙ sym (append_assoc before (a ∷ ms) (t.ask ∷ t.later));
+          none_before = none_before;
+          tells = subst (λ xs. TellsUnmerged e (asked_in xs) (t.ask.name, t.ask.item)) (sym (those_same t.ask (before ++ a ∷ ms) among))
+              (told_behind e (class asks t.ask) ms (t.ask.name, t.ask.item) (subst (λ xs. TellsUnmerged e (asked_in (those_in (class asks t.ask) xs)) (t.ask.name, t.ask.item)) is t.tells));
+        }
+          where
+            parts : (merge_conflict asks [] before ≡ None) × (merge_conflict asks before ms ≡ None)
+            parts = or_none (merge_conflict asks [] before) (merge_conflict asks before ms) (sym (conflict_split asks [] before ms) ∙ ap (λ xs. merge_conflict asks [] xs) (sym is) ∙ t.none_before)
+
+            none_first : merge_conflict more [] before ≡ None
+            none_first = firsts_same ∙ parts.0
+
+            behind : (d : Ask A) → Among d ms → Among d asks
+            behind d m = each d (subst (Among d) (sym is) (Among-right d before ms m))
+
+            none_rest : merge_conflict more (before ++ a ∷ []) ms ≡ None
+            none_rest = after_same [] ms behind ∙ ap (λ xs. merge_conflict asks xs ms) (append-nil before) ∙ parts.1
+
+            none_before : merge_conflict more [] (before ++ a ∷ ms) ≡ None
+            none_before =
+                conflict_split more [] before (a ∷ ms)
+                ∙ ap (λ o. option_or o (merge_conflict more before (a ∷ ms))) none_first
+                ∙ ap (λ o. option_or o (merge_conflict more (before ++ a ∷ []) ms)) (repeated_fine none_first) ∙ none_rest
+
+pub repeated_is_told : {A : Type 0} → Repeated_is_told A
+repeated_is_told e before after a b m n i w t = told_same before after a b m n i w e t
 
 pub repeated_conflicts_no_more : {A : Type 0} → Repeated_conflicts_no_more A
 repeated_conflicts_no_more before after a b m n i w = conflict_same before after a b m n i w

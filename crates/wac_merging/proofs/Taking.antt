@@ -17,7 +17,10 @@ use Rattle.wac_types_fit.specs.Trees.{tree_in}
 use Rattle.wac_types_fit.specs.Meets.{IsPlain}
 use Rattle.wac_types_fit.proofs.Ordering.{tree_in_order}
 use Rattle.wac_types_merge.specs.declared.family.Family.{Family}
+use Rattle.wac_types_merge.specs.declared.errors.AggregateError.{AggregateError}
+use Rattle.wac_types_merge.specs.Errors.{Refuses, LeadsTo}
 use Rattle.wac_types_merge.specs.Families.{joint}
+use Rattle.wac_types_merge.specs.Interfaces.{LeadsIn}
 use Rattle.wac_types_merge.specs.Steps.{HasClash, LieOutside}
 use Rattle.wac_types_merge.proofs.Plain.{family_plain, plain_meet}
 use Rattle.wac_types_merge.proofs.Asking.{joint_first, joint_second}
@@ -30,6 +33,8 @@ use Rattle.wac_composition.proofs.Clashing.{among_append, kept_further}
 use Rattle.wac_composition.proofs.Again.{asking_twice, kept_well}
 use Rattle.wac_merging.specs.Families.{family_by, family_stated}
 use Rattle.wac_merging.specs.Merging.{kept_by, IsKept, AreKeepable}
+use Rattle.wac_merging.specs.Kept.{IfMerging}
+use Rattle.wac_merging.specs.Unmerged.{TellsUnmerged}
 use Rattle.wac_merging.specs.Asking.{asked_as, HaveFamily, IsOfFamily, FamilyTaken, IsTaken, Asked_has_family, Unnamed_has_none, First_is_taken, Again_is_taken, One_family_is_all, Next_is_taken, Refused_keeps_nothing, Taken_stays, Kept_is_identified, Spelled_is_identified}
 use Rattle.wac_merging.proofs.Well.{well_made}
 use Rattle.wac_merging.proofs.United.{instance_made}
@@ -137,6 +142,12 @@ module _ (asks : List Asked) (b : Asked) (there : Among b asks) (well : (a : Ask
   family_next Family.Neither Family.Plain h e = still_none asks a h
   family_next Family.Neither Family.Wit h e = still_none asks a h
   family_next Family.Neither Family.Neither h e = still_none asks a h
+
+-- asks that have a family are in one
+have_one : (asks : List Asked) (f : Family) → HaveFamily asks f → (f ≡ Family.Neither → ⊥) → in_family asks ≡ true
+have_one asks Family.Plain h some = in_plain asks h
+have_one asks Family.Wit h some = in_wit asks h
+have_one asks Family.Neither h some = absurd (some refl)
 
 -- asks that are all one
 all_one : (p : Asked → Bool) (asks : List Asked) (b : Asked) → ((a : Asked) → Among a asks → a ≡ b) → p b ≡ true → list_all p asks ≡ true
@@ -263,6 +274,24 @@ module _ (c : Collection) (asks : List Asked) (several : Bool) (n : Name) (k j :
 
   pub refused_next : (later : List Asked) → HasClash c (joint f g) k j ⊎ LieOutside c (joint f g) k j → kept (asks ++ a ∷ later) ≡ None
   refused_next later h = kept_more later ∙ ap (λ z. kept_from (asks ++ a ∷ []) z later) (refused_is_stated c (joint f g) k j keepable h)
+
+  -- what the error tells that refuses it
+  pub told_next : (e : AggregateError) → Refuses e (HasClash c (joint f g) k j) (LieOutside c (joint f g) k j) ⊥ → LeadsTo e (LeadsIn c k j) → IfMerging e (TellsUnmerged e asks a)
+  unfolding tree_in
+  told_next (AggregateError.Incompatible x) r l = record {
+    item = stated_of c k;
+    so_far = t.kept;
+    nothing = refused_next [] (inl r);
+    apart = (have_one (asks ++ a ∷ []) (joint f g) have_next r.0, r.1 (keepable.first_plain r.0), l);
+  }
+  told_next AggregateError.OutsideFamilies r l = record {
+    item = stated_of c k;
+    so_far = t.kept;
+    nothing = refused_next [] (inr r);
+    apart = (subst (HaveFamily (asks ++ a ∷ [])) r.0 have_next, r.1.0, r.1.1);
+  }
+  told_next AggregateError.UsedWithoutIdentifier r l = absurd r
+  told_next AggregateError.Memory r l = tt
 
 pub next_is_taken : Next_is_taken
 next_is_taken c d asks several n k j r f g acyclic t o h = taken_next c asks several n k j f g acyclic t o d r h

@@ -12,6 +12,7 @@ use Rattle.wac_composition.specs.Merging.{Asked, kept, identified}
 use Rattle.wac_composition.specs.Again.{IsWell}
 use Rattle.wac_merging.specs.declared.kept.Kept.{Kept}
 use Rattle.wac_merging.specs.Asking.{asked_as, IsOfFamily, IsTaken}
+use Rattle.wac_merging.specs.Unmerged.{TellsUnmerged}
 
 -- these asks keep it
 abbrev pub Keeps : Collection → List Asked → Kept → Type 0
@@ -44,6 +45,11 @@ KeepsNext c before f asked g d after = (asks : List Asked) (n : Name) → before
 abbrev pub KeepsNothing : Collection → Kept → Family → (asked : ItemKind) (g : Family) → Type 0
 KeepsNothing c before f asked g = (asks later : List Asked) (n : Name) → before.family ≡ Some f → IsOfFamily c n asked g
     → Keeps c asks before → kept (asks ++ asked_as c n asked ∷ later) ≡ None
+
+-- the error tells how it is apart from what is kept
+abbrev pub TellsNext : Collection → Kept → Family → (asked : ItemKind) (g : Family) → AggregateError → Type 0
+TellsNext c before f asked g e = (asks : List Asked) (n : Name) → before.family ≡ Some f → IsOfFamily c n asked g
+    → Keeps c asks before → TellsUnmerged e asks (asked_as c n asked)
 
 -- what is refused for no want of memory keeps nothing
 abbrev pub IfMerging : AggregateError → Type 0 → Type 0

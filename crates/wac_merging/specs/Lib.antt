@@ -6,3 +6,4 @@ pub mod Labelled
 pub mod Kept
 pub mod Outers
 pub mod Repeated
+pub mod Unmerged

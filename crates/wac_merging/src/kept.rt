@@ -6,7 +6,7 @@ ghost use Rattle.wac_types_base.specs.Collection.{Stands, Grows};
 ghost use Rattle.wac_types_merge.specs.Families.{UsesUnnamed};
 ghost use Rattle.wac_merging.specs.Families.{NamesUses};
 ghost use Rattle.wac_composition.specs.Names.{has_track};
-ghost use Rattle.wac_merging.specs.Kept.{HasFamily, KeepsFirst, KeepsAgain, KeepsWith, KeepsNext, KeepsNothing, IfMerging, Spells};
+ghost use Rattle.wac_merging.specs.Kept.{HasFamily, KeepsFirst, KeepsAgain, KeepsWith, KeepsNext, KeepsNothing, IfMerging, TellsNext, Spells};
 
 use std::alloc::{AllocError, Global};
 use wac_types_base::{ItemKind, Types};
@@ -101,6 +101,7 @@ pub fn kept_next(
     ensures next { IfOk result (KeepsNext types.old before family asked asked_family types.new) }
     ensures stands { IfOk result (λ k. Stands types.new k.item) }
     ensures nothing { IfErr result (λ e. IfMerging e (KeepsNothing types.old before family asked asked_family)) }
+    ensures tells { IfErr result (λ e. IfMerging e (TellsNext types.old before family asked asked_family e)) }
     ensures grows { Grows types.old types.new }
 {
     types.see_acyclic();

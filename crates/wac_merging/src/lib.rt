@@ -11,6 +11,7 @@ ghost use Rattle.wac_merging.specs.Families.{Family_is_stated, Unnamed_is_of_non
 ghost use Rattle.wac_merging.specs.Merging.{Merged_is_stated, Clash_is_stated, Narrower_is_stated, Outside_is_stated, Kept_is_stated, Refused_is_stated, Spelled_is_stated};
 ghost use Rattle.wac_merging.specs.Labelled.{Labels_are_of_classes, Class_is_labelled, Outers_are_labelled, One_more_labelled, Kept_have_no_conflict, Refused_is_conflict};
 ghost use Rattle.wac_merging.specs.Repeated.{Repeated_conflicts_no_more};
+ghost use Rattle.wac_merging.specs.Unmerged.{Refused_is_told, Repeated_is_told};
 ghost use Rattle.wac_merging.specs.Outers.{Spelled_is_outer, Outers_are_stated, Outers_differ};
 ghost use Rattle.wac_merging.specs.Asking.{Asked_has_family, Unnamed_has_none, First_is_taken, Again_is_taken, One_family_is_all, Next_is_taken, Refused_keeps_nothing, Taken_stays, Kept_is_identified, Spelled_is_identified};
 
@@ -85,10 +86,12 @@ pub fn outer_imports_are_labelled<A>()
 {}
 
 /// Where asks are taken in turn by their labels, none of them conflicts while those of each label keep something, and
-/// the first one behind which they keep nothing is the conflict, with the first ask of its label.
+/// the first one behind which they keep nothing is the conflict, with the first ask of its label; what an error tells of
+/// it tells of the conflict.
 pub fn conflicts_are_labelled<A>()
     ensures none { Kept_have_no_conflict A }
     ensures first { Refused_is_conflict A }
+    ensures told { Refused_is_told A }
 {}
 
 /// What the asks of each label keep, under their spellings, are the outer imports, and those of two labels have two names.
@@ -98,7 +101,9 @@ pub fn outer_imports_are_kept<A>()
     ensures differ { Outers_differ A }
 {}
 
-/// Where what was asked under a name is asked again, by whomever, the first conflict of the asks is the same.
+/// Where what was asked under a name is asked again, by whomever, the first conflict of the asks is the same, and what is
+/// told of it.
 pub fn repeated_asks_conflict_no_more<A>()
-    ensures { Repeated_conflicts_no_more A }
+    ensures conflict { Repeated_conflicts_no_more A }
+    ensures told { Repeated_is_told A }
 {}
