@@ -1,15 +1,14 @@
 -- Places of imports under names: of each name the first is found.
-use Rattle.std.proofs.Common.{◌≡◌, ℕ, suc, ◌+◌, List, [], ◌∷◌, ◌++◌, length, take, Option, Some, None, ◌==◌, Bool, true, false, cond, inl, inr, refl, sym, ap, subst, ◌∙◌, arith, append_assoc, slice_get}
+use Rattle.std.proofs.Common.{◌≡◌, ℕ, suc, ◌+◌, List, [], ◌∷◌, ◌++◌, length, take, Option, Some, None, true, cond, inl, inr, refl, sym, ap, subst, ◌∙◌, arith, append_assoc, slice_get}
 use Rattle.std.specs.Prelude.{is_some, unwrap_or}
 use Rattle.std.specs.Option.{option_or}
-use Rattle.std.specs.Cmp.Lexicographic.{pointwise}
 use Rattle.wac_types_base.specs.declared.ids.InterfaceId.{InterfaceId}
 use Rattle.wac_types_base.specs.declared.item.ItemKind.{ItemKind}
 use Rattle.wac_types_base.specs.declared.defined.UsedType.{UsedType}
 use Rattle.wac_types_base.specs.Record.{Collection}
 use Rattle.wac_types_base.specs.Entries.{Name, value_at}
 use Rattle.wac_types_base.specs.Parts.{identifier_in}
-use Rattle.wac_types_base.proofs.Lists.{name_tested}
+use Rattle.wac_types_base.proofs.Lists.{name_tested, value_both}
 use Rattle.wac_types_base.proofs.Looked.{take-one_more}
 use Rattle.std.proofs.lemmas.List.{map_push, length-take-le}
 use Rattle.std.proofs.lemmas.Option.{slice_get_within}
@@ -22,14 +21,6 @@ use Rattle.wac_graph_scopes.specs.Used.{IsUsedAs}
 use Rattle.wac_graph_scopes.specs.Items.{Never}
 use Rattle.wac_graph_scopes.specs.Imports.{IsUseOf, IsInstanceImport, called_places, own_places, FindsFirst, IsImportedAs, IsFoundFor}
 
-value_or : {T : Type 0} (xs ys : List (Name × T)) (n : Name) → value_at (xs ++ ys) n ≡ option_or (value_at xs n) (value_at ys n)
-value_or [] ys n = refl
-value_or (x ∷ xs) ys n = by_test (value_or xs ys n) (pointwise ◌==◌ n x.0)
-  where
-    by_test : value_at (xs ++ ys) n ≡ option_or (value_at xs n) (value_at ys n) → (b : Bool) → cond b (Some x.1) (value_at (xs ++ ys) n) ≡ option_or (cond b (Some x.1) (value_at xs n)) (value_at ys n)
-    by_test h true = refl
-    by_test h false = h
-
 or_any : (o p : Option ℕ) → is_some o ≡ true → o ≡ option_or o p
 or_any (Some x) p e = refl
 or_any None p e = absurd (cc e)
@@ -40,13 +31,13 @@ or_none None = refl
 
 -- one more behind those that are found so
 pub first_next : (new found all more : List (Name × ℕ)) → FindsFirst new (found ++ more) → FindsFirst found all → FindsFirst new (all ++ more)
-first_next new found all more a f n = a n ∙ value_or found more n ∙ ap (λ o. option_or o (value_at more n)) (f n) ∙ sym (value_or all more n)
+first_next new found all more a f n = a n ∙ value_both found more n ∙ ap (λ o. option_or o (value_at more n)) (f n) ∙ sym (value_both all more n)
 
 -- a name that is there is found as it was
 pub first_kept : (xs : List (Name × ℕ)) (n : Name) (at : ℕ) → is_some (value_at xs n) ≡ true → FindsFirst xs (xs ++ (n, at) ∷ [])
 first_kept xs n at there m = elim (name_tested m n) [
-  | inl same ↦ or_any (value_at xs m) (value_at ((n, at) ∷ []) m) (ap (λ (k : Name). is_some (value_at xs k)) same.0 ∙ there) ∙ sym (value_or xs ((n, at) ∷ []) m)
-  | inr other ↦ or_none (value_at xs m) ∙ ap (option_or (value_at xs m)) (sym (ap (λ b. cond b (Some at) None) other.1)) ∙ sym (value_or xs ((n, at) ∷ []) m)
+  | inl same ↦ or_any (value_at xs m) (value_at ((n, at) ∷ []) m) (ap (λ (k : Name). is_some (value_at xs k)) same.0 ∙ there) ∙ sym (value_both xs ((n, at) ∷ []) m)
+  | inr other ↦ or_none (value_at xs m) ∙ ap (option_or (value_at xs m)) (sym (ap (λ b. cond b (Some at) None) other.1)) ∙ sym (value_both xs ((n, at) ∷ []) m)
 ]
 
 -- the place of one more name
@@ -71,7 +62,7 @@ called_next old cs i c e =
 
 -- ---- types that are used
 
-kind_of : {T : Type 0} (x y : Name × T) → Some x ≡ Some y → x.1 ≡ y.1
+pub kind_of : {T : Type 0} (x y : Name × T) → Some x ≡ Some y → x.1 ≡ y.1
 kind_of x y e = let same : x ≡ y = cc e in ap (λ p. p.1) same
 
 -- an import is of one interface

@@ -16,6 +16,7 @@ pub mod FieldLaws
 pub mod ItemLaws
 pub mod UsedNames
 pub mod UsedLaws
+pub mod StockLaws
 pub mod OrderLaws
 pub mod RootLaws
 pub mod FoundLaws

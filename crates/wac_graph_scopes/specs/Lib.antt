@@ -8,5 +8,7 @@ pub mod ItemRefusals
 pub mod Roots
 pub mod Used
 pub mod Items
+pub mod Stock
+pub mod InstanceRefusals
 pub mod Orders
 pub mod Imports

@@ -13,7 +13,7 @@ use Rattle.wac_types_base.specs.declared.item.ItemKind.{ItemKind}
 use Rattle.wac_types_base.specs.Record.{Collection}
 use Rattle.wac_types_base.specs.Graph.{Among}
 use Rattle.wac_types_base.specs.Entries.{Name, value_at}
-use Rattle.wac_types_base.specs.Collection.{Stands, resource}
+use Rattle.wac_types_base.specs.Collection.{resource}
 use Rattle.wac_types_base.specs.Resolving.{IsNoAlias}
 use Rattle.wac_types_base.specs.Tree.{Tree, rigid, end}
 use Rattle.wac_types_fit.specs.Trees.{tree_in}

@@ -15,6 +15,7 @@ ghost use Rattle.wac_types_parts.specs.Parts.{IsUsedKind};
 ghost use Rattle.wac_graph_scopes.specs.Items.{IsItemScope, with_known, Never, Misses, HasNameAt, HasEntry, IsNoResource, DescribesSimply, DescribesEntry, DescribesOwn};
 ghost use Rattle.wac_graph_scopes.specs.Orders.{IsOrder, SourcesFirst};
 ghost use Rattle.wac_graph_scopes.specs.ItemRefusals.{RefusedTypeApart, RefusedItem, RefusedUse};
+ghost use Rattle.wac_graph_scopes.specs.InstanceRefusals.{LacksIdentifier, UseRefused, LacksIdentifiers, RefusesInstance, RefusesOther};
 ghost use Rattle.wac_graph_scopes.specs.Imports.{all_imports, all_exports, IsUseOf, IsGivenBy, NoneWritten, IsInstanceImport, IsPlaced, GivesTaken, NotGiven, FindsSource, AddsUsed, AliasesUse, KeepsWorld, DescribesImport, DescribesThere, DescribesOther, MayDescribe};
 ghost use Rattle.wac_graph_scopes.specs.Imports.{called_places, own_places, import_places, FindsFirst, IsImportedAs, IsFoundFor, FindsImported};
 ghost use Rattle.wac_graph_scopes.specs.Imports.{ImportsDescribed, ImportsAt, WritesImport, WritesInOrder, ExportsIndexed, BeginsWorld};
@@ -263,6 +264,7 @@ pub fn describe_alone(
     ensures describes { DescribesSimply types.now kind scope.old scope.new result }
     ensures own { HasEntry kind → DescribesEntry types.now scope.old scope.new result }
     ensures refused { Stands types.now kind → IfErr result (RefusedItem types.now kind scope.old scope.new) }
+    ensures instance { RefusesInstance types.now [] 0 kind scope.old result }
 {
     let used = UsedTypes::new(alloc);
     let around = Around {
@@ -282,6 +284,7 @@ fn describe_type(
     ensures describes { DescribesSimply types.now (ItemKind.Ty ty) scope.old scope.new result }
     ensures own { IsNoResource ty → DescribesEntry types.now scope.old scope.new result }
     ensures refused { Stands types.now (ItemKind.Ty ty) → IfErr result (RefusedTypeApart types.now ty scope.old scope.new) }
+    ensures instance { RefusesInstance types.now [] 0 (ItemKind.Ty ty) scope.old result }
 {
     types.see_acyclic();
     match ty {
@@ -455,7 +458,8 @@ impl ImportScope {
         all: Importing<'_>,
         used: Use<'_>,
     ) -> Result<(), WriteError>
-        ensures { KeepsWorld all.entry self.old self.new result }
+        ensures keeps { KeepsWorld all.entry self.old self.new result }
+        ensures refused { IfErr result (λ e. e ≡ WriteError.Unwritable → LacksIdentifier all.entry.types.now used.entry) }
     {
         match taken(all.types, used) {
             Some(item) => self.alias_taken(alloc, all, used, item),
@@ -473,7 +477,8 @@ impl ImportScope {
     ) -> Result<(), WriteError>
         requires stands { Stands all.types.now item }
         requires kind { IsUsedKind item }
-        ensures { KeepsWorld all.entry self.old self.new result }
+        ensures keeps { KeepsWorld all.entry self.old self.new result }
+        ensures refused { IfErr result (RefusedUse all.entry.types.now used.entry) }
     {
         let found = self.alias_of(alloc, all, used, item)?;
         match found {
@@ -490,7 +495,8 @@ impl ImportScope {
         id: InterfaceId,
         at: usize,
     ) -> Result<(), WriteError>
-        ensures { KeepsWorld all.entry self.old self.new result }
+        ensures keeps { KeepsWorld all.entry self.old self.new result }
+        ensures refused { IfErr result (λ e. e ≡ WriteError.Unwritable → UseRefused all.entry.types.now id) }
     {
         let Some(used) = use_at(all.types, id, at) else {
             return Ok(());
@@ -509,7 +515,8 @@ impl ImportScope {
         all: Importing<'_>,
         id: InterfaceId,
     ) -> Result<(), WriteError>
-        ensures { KeepsWorld all.entry self.old self.new result }
+        ensures keeps { KeepsWorld all.entry self.old self.new result }
+        ensures refused { IfErr result (λ e. e ≡ WriteError.Unwritable → UseRefused all.entry.types.now id) }
     {
         for at in 0..use_count(all.types, id) {
             self.alias_use_at(alloc, all, id, at)?;
@@ -525,7 +532,8 @@ impl ImportScope {
         all: Importing<'_>,
         kind: ItemKind,
     ) -> Result<(), WriteError>
-        ensures { KeepsWorld all.entry self.old self.new result }
+        ensures keeps { KeepsWorld all.entry self.old self.new result }
+        ensures refused { IfErr result (λ e. e ≡ WriteError.Unwritable → LacksIdentifiers all.entry.types.now kind) }
     {
         match interface_of(all.types, kind) {
             Some(id) => self.prepare_interface(alloc, all, id),
@@ -541,7 +549,8 @@ impl ImportScope {
         all: Importing<'_>,
         id: InterfaceId,
     ) -> Result<(), WriteError>
-        ensures { KeepsWorld all.entry self.old self.new result }
+        ensures keeps { KeepsWorld all.entry self.old self.new result }
+        ensures refused { IfErr result (λ e. e ≡ WriteError.Unwritable → LacksIdentifiers all.entry.types.now (ItemKind.Instance id)) }
     {
         self.alias_uses(alloc, all, id)?;
         for at in 0..export_count(all.types, id) {
@@ -559,7 +568,8 @@ impl ImportScope {
         id: InterfaceId,
         at: usize,
     ) -> Result<(), WriteError>
-        ensures { KeepsWorld all.entry self.old self.new result }
+        ensures keeps { KeepsWorld all.entry self.old self.new result }
+        ensures refused { IfErr result (λ e. e ≡ WriteError.Unwritable → LacksIdentifiers all.entry.types.now (ItemKind.Instance id)) }
     {
         match export_at(all.types, id, at) {
             Some(item) => self.prepare(alloc, all, item.kind),
@@ -599,6 +609,7 @@ impl ImportScope {
         ensures describes { DescribesThere types.now kind self.old self.new result }
         ensures own { HasEntry kind → DescribesEntry types.now self.old.scope self.new.scope result }
         ensures refused { Stands types.now kind → IfErr result (RefusedItem types.now kind self.old.scope self.new.scope) }
+        ensures instance { RefusesInstance types.now self.old.used 0 kind self.old.scope result }
     {
         let around = Around {
             used: &self.used,
@@ -620,6 +631,7 @@ impl ImportScope {
         ensures own { IsNoResource ty → DescribesOwn types.now self.old.scope other.old self.new.scope result }
         ensures refused { Stands types.now (ItemKind.Ty ty)
             → IfErr result (RefusedTypeApart types.now ty (with_known other.old self.old.scope) self.new.scope) }
+        ensures instance { RefusesOther types.now (ItemKind.Ty ty) self.old.scope other.old result }
         ensures kept { self.new.scope.types.known ≡ self.old.scope.types.known }
     {
         self.scope.types.exchange(other);
@@ -687,6 +699,7 @@ impl ImportScope {
         description: Description,
     ) -> Result<SortIndex, WriteError>
         ensures imports { ImportsDescribed types.now import.entry description self.old.scope self.new.scope result }
+        ensures refused { IfErr result (λ e. e ≡ WriteError.Memory) }
         ensures used { self.new.used ≡ self.old.used }
         ensures places { self.new.places ≡ self.old.places }
     {

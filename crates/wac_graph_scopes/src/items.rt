@@ -1,6 +1,6 @@
 //! Items in a scope of written types, and the types of instances.
 
-ghost use Rattle.std.specs.Prelude.{◌≡◌, ◌+◌, ◌-◌, ◌^◌, List, IfSome, IfNone, IfOk, IfErr, OnOk, Some, false, true, slice_get};
+ghost use Rattle.std.specs.Prelude.{◌≡◌, ◌+◌, ◌-◌, ◌^◌, List, IfSome, IfNone, IfOk, IfErr, OnOk, Some, false, slice_get};
 ghost use Rattle.wac_types_base.specs.declared.item.ItemKind.{ItemKind};
 ghost use Rattle.wac_types_base.specs.declared.item.«Type».{«Type» as TypeKind};
 ghost use Rattle.wac_types_base.specs.declared.item.ValueType.{ValueType};
@@ -10,18 +10,22 @@ ghost use Rattle.wac_types_base.specs.Collection.{Stands};
 ghost use Rattle.wac_types_fit.specs.Trees.{IsInside, tree_in};
 ghost use Rattle.wac_graph_bytes.specs.Typing.{Worlds, Scope, nothing_inside};
 ghost use Rattle.wac_graph_scopes.specs.Used.{IsUsedAs};
-ghost use Rattle.wac_types_parts.specs.Parts.{exports_of, uses_of, IsUsedKind, IsFresh};
+ghost use Rattle.wac_types_parts.specs.Parts.{exports_of};
 ghost use Rattle.wac_graph_scopes.specs.declared.fault.WriteError.{WriteError};
+ghost use Rattle.wac_graph_scopes.specs.Known.{KeepsKnown};
 ghost use Rattle.wac_graph_scopes.specs.Refusals.{RefusedThere};
-ghost use Rattle.wac_graph_scopes.specs.ItemRefusals.{RefusedModule, RefusedType, RefusedItem, RefusedUse};
+ghost use Rattle.wac_graph_scopes.specs.ItemRefusals.{RefusedModule, RefusedType, RefusedItem};
+ghost use Rattle.wac_graph_scopes.specs.Stock.{Holds, KeepsTypes};
+ghost use Rattle.wac_graph_scopes.specs.InstanceRefusals.{RefusesInstance, RefusesExport, RefusesExports, RefusesWriting, RefusesMaking};
 ghost use Rattle.wac_graph_scopes.specs.Items.{IsItemScope, AddsType, EntersType, AddsCore, count_of, with_count, AddsItem, RepeatsType, AliasesOuter, AliasesExport, described_as, Notes};
-ghost use Rattle.wac_graph_scopes.specs.Items.{FindsUsed, FindsUnder, Misses, IsUsedBy, AliasesUsed, ExportsTaken, NotTaken, HasNameAt, ExportsUsed, TakesUse, TakesNamed, TakesAt, BeginsInstance, KeepsWriting, ExportsDescribed, ExportsFresh};
+ghost use Rattle.wac_graph_scopes.specs.Items.{FindsUsed, FindsUnder, Misses, ExportsTaken, NotTaken, HasNameAt, ExportsDescribed, ExportsFresh};
 ghost use Rattle.wac_graph_scopes.specs.Items.{StatesType, StatesTypeItem, StatesModule, DescribesSimply, MakesItem, HasEntry, DescribesEntry, StatesItem, StatesClosed, DescribesItem, ExportsOne, WritesOtherAt, WritesOthers, WritesInstance, MakesInstance};
 
 use crate::core_items::module_declarations;
 use crate::fault::WriteError;
 use crate::resources::{note_resource, resource_of};
 use crate::scope::{TypeScope, next_of};
+use crate::stock::begin_instance;
 use crate::used::{TypeName, UsedIndex, UsedTypes};
 use crate::value::{define_value, fits_in, note_value, push_func};
 use crate::worlds::component_type;
@@ -31,10 +35,7 @@ use wac_graph_bytes::{Alias, Declaration, Description, Sort};
 use wac_types_base::{
     FuncTypeId, InterfaceId, ItemKind, ModuleTypeId, Names, Type, Types, ValueType, WorldId,
 };
-use wac_types_parts::parts::{
-    Item, Use, export_at, export_count, export_named, identifier, interface_of, is_fresh, taken,
-    use_at, use_count, world_of,
-};
+use wac_types_parts::parts::{Item, export_at, export_count, export_named, interface_of, world_of};
 
 /// A scope of written types, and how many items of the other sorts stand there.
 #[derive(Drop)]
@@ -56,10 +57,10 @@ pub struct Around<'a> {
 
 /// An interface whose instance type is written, and what stands around it.
 #[derive(Clone, Copy)]
-struct PlacedInterface<'a> {
-    types: &'a Types,
-    around: Around<'a>,
-    id: InterfaceId,
+pub(crate) struct PlacedInterface<'a> {
+    pub(crate) types: &'a Types,
+    pub(crate) around: Around<'a>,
+    pub(crate) id: InterfaceId,
 }
 
 impl<'a> Around<'a> {
@@ -107,6 +108,8 @@ impl ItemScope {
         ensures adds { AddsType declaration self.old self.new result }
         ensures entry { EntersType declaration self.old self.new result }
         ensures refused { IfErr result (λ e. e ≡ WriteError.Memory) }
+        ensures known { self.new.types.known ≡ self.old.types.known }
+        ensures resources { self.new.types.resources ≡ self.old.types.resources }
     {
         self.types.declarations.push(declaration)?;
         let index = self.types.types;
@@ -118,6 +121,8 @@ impl ItemScope {
     fn add_core(&mut self, declaration: Declaration) -> Result<u64, WriteError>
         ensures adds { AddsCore declaration self.old self.new result }
         ensures refused { IfErr result (λ e. e ≡ WriteError.Memory) }
+        ensures known { self.new.types.known ≡ self.old.types.known }
+        ensures resources { self.new.types.resources ≡ self.old.types.resources }
     {
         self.types.declarations.push(declaration)?;
         let index = self.cores;
@@ -133,6 +138,8 @@ impl ItemScope {
     ) -> Result<u64, WriteError>
         ensures adds { AddsItem declaration description self.old self.new result }
         ensures refused { IfErr result (λ e. e ≡ WriteError.Memory) }
+        ensures known { self.new.types.known ≡ self.old.types.known }
+        ensures resources { self.new.types.resources ≡ self.old.types.resources }
     {
         self.types.declarations.push(declaration)?;
         let index = self.count_of(description);
@@ -168,9 +175,11 @@ impl ItemScope {
     }
 
     /// Adds an alias of a type that stands so many scopes further out.
-    fn add_outer(&mut self, depth: u64, index: u64) -> Result<u64, WriteError>
+    pub(crate) fn add_outer(&mut self, depth: u64, index: u64) -> Result<u64, WriteError>
         ensures aliases { AliasesOuter depth index self.old self.new result }
         ensures refused { IfErr result (λ e. e ≡ WriteError.Memory) }
+        ensures known { self.new.types.known ≡ self.old.types.known }
+        ensures resources { self.new.types.resources ≡ self.old.types.resources }
     {
         self.add_type(Declaration::Alias(Alias::Outer(Sort::Ty, depth, index)))
     }
@@ -205,7 +214,10 @@ impl ItemScope {
         kind: ItemKind,
         index: u64,
     ) -> Result<(), WriteError>
-        ensures { Notes types.now kind index self.old self.new result }
+        ensures notes { Notes types.now kind index self.old self.new result }
+        ensures refused { IfErr result (λ e. e ≡ WriteError.Memory) }
+        ensures held { Stands types.now kind → OnOk result (Holds types.now self.new.types kind) }
+        ensures keeps { OnOk result (KeepsTypes self.old.types self.new.types) }
     {
         types.see_acyclic();
         match kind {
@@ -221,7 +233,10 @@ impl ItemScope {
         ty: Type,
         index: u64,
     ) -> Result<(), WriteError>
-        ensures { Notes types.now (ItemKind.Ty ty) index self.old self.new result }
+        ensures notes { Notes types.now (ItemKind.Ty ty) index self.old self.new result }
+        ensures refused { IfErr result (λ e. e ≡ WriteError.Memory) }
+        ensures held { Stands types.now (ItemKind.Ty ty) → OnOk result (Holds types.now self.new.types (ItemKind.Ty ty)) }
+        ensures keeps { OnOk result (KeepsTypes self.old.types self.new.types) }
     {
         types.see_acyclic();
         match ty {
@@ -278,80 +293,6 @@ pub(crate) fn exports_taken(
     }
 }
 
-/// The index of an alias of a used type, which stands around.
-fn alias_around(
-    alloc: Global,
-    scope: &mut ItemScope,
-    types: &Types,
-    around: Around<'_>,
-    used: Use<'_>,
-    item: ItemKind,
-) -> Result<Option<u64>, WriteError>
-    ensures aliases { AliasesUsed types.now around.entry item scope.old scope.new result }
-    ensures none { Misses types.now item (IsUsedBy types.now around.entry.used.now used.entry item) result }
-    ensures refused { IfErr result (RefusedUse types.now used.entry) }
-{
-    let Some(identifier) = identifier(types, used.interface) else {
-        return Err(WriteError::Unwritable);
-    };
-    let name = TypeName {
-        identifier,
-        name: used.there,
-    };
-    let found = find_used(alloc, types, around.used, name, item)?;
-    match found {
-        Some(index) => {
-            let alias = scope.add_outer(around.depth, index)?;
-            Ok(Some(alias))
-        }
-        None => Ok(None),
-    }
-}
-
-/// Exports a used type that is the one at an index, where the interface has that export. Whether there is it.
-fn export_used(
-    alloc: Global,
-    scope: &mut ItemScope,
-    types: &Types,
-    id: InterfaceId,
-    used: Use<'_>,
-    alias: UsedIndex,
-) -> Result<bool, WriteError>
-    ensures { ExportsUsed types.now id used.entry alias.item alias.index scope.old scope.new result }
-{
-    let is_taken = exports_taken(alloc, types, id, used.name, alias.item)?;
-    if !is_taken {
-        scope.note(alloc, types, alias.item, alias.index)?;
-        return Ok(false);
-    }
-    let text = String::from_str(alloc, used.name)?;
-    let own = scope.types.export_type(text, alias.index)?;
-    scope.note(alloc, types, alias.item, own)?;
-    Ok(true)
-}
-
-/// Writes a used type: an alias of what stands around, and the export that is the same. Whether there is that export.
-fn take_use(
-    alloc: Global,
-    scope: &mut ItemScope,
-    all: PlacedInterface<'_>,
-    used: Use<'_>,
-) -> Result<bool, WriteError>
-    ensures { TakesUse all.entry used.entry scope.old scope.new result }
-{
-    let Some(item) = taken(all.types, used) else {
-        return Ok(false);
-    };
-    let found = alias_around(alloc, scope, all.types, all.around, used, item)?;
-    match found {
-        Some(index) => {
-            let alias = UsedIndex { item, index };
-            export_used(alloc, scope, all.types, all.id, used, alias)
-        }
-        None => Ok(false),
-    }
-}
-
 /// Adds a name.
 pub(crate) fn add_name(alloc: Global, names: &mut Names, name: &str) -> Result<(), AllocError>
     ensures { OnOk result (names.new ≡ put_name names.old name.now) }
@@ -359,57 +300,6 @@ pub(crate) fn add_name(alloc: Global, names: &mut Names, name: &str) -> Result<(
     let name = String::from_str(alloc, name)?;
     let _ = names.insert(name)?;
     Ok(())
-}
-
-/// Writes the used type at a place, and adds its name if it is exported.
-fn take_use_at(
-    alloc: Global,
-    scope: &mut ItemScope,
-    all: PlacedInterface<'_>,
-    at: usize,
-    given: &mut Names,
-) -> Result<(), WriteError>
-    requires { AreDistinct (names_of (uses_of all.types.now all.id)) }
-    ensures { TakesAt all.entry at scope.old given.old scope.new given.new result }
-{
-    match use_at(all.types, all.id, at) {
-        Some(used) => take_named(alloc, scope, all, used, given),
-        None => Ok(()),
-    }
-}
-
-/// Writes a used type, and adds its name if it is exported.
-fn take_named(
-    alloc: Global,
-    scope: &mut ItemScope,
-    all: PlacedInterface<'_>,
-    used: Use<'_>,
-    given: &mut Names,
-) -> Result<(), WriteError>
-    ensures { TakesNamed all.entry used.entry scope.old given.old scope.new given.new result }
-{
-    let is_exported = take_use(alloc, scope, all, used)?;
-    if is_exported {
-        Ok(add_name(alloc, given, used.name)?)
-    } else {
-        Ok(())
-    }
-}
-
-/// Writes the used types of an interface; the names of those that it exports.
-fn take_uses(
-    alloc: Global,
-    scope: &mut ItemScope,
-    all: PlacedInterface<'_>,
-) -> Result<Names, WriteError>
-    ensures { BeginsInstance all.entry scope.old scope.new result }
-{
-    let mut given = Names::new(alloc);
-    let count = use_count(all.types, all.id);
-    for at in 0..count {
-        take_use_at(alloc, scope, all, at, &mut given)?;
-    }
-    Ok(given)
 }
 
 /// Exports an item that is so described; its index.
@@ -420,7 +310,10 @@ fn export_described(
     item: Item<'_>,
     description: Description,
 ) -> Result<u64, WriteError>
-    ensures { ExportsDescribed types.now item.entry description scope.old scope.new result }
+    ensures exports { ExportsDescribed types.now item.entry description scope.old scope.new result }
+    ensures held { Stands types.now item.entry.kind → OnOk result (Holds types.now scope.new.types item.entry.kind) }
+    ensures keeps { OnOk result (KeepsTypes scope.old.types scope.new.types) }
+    ensures refused { IfErr result (λ e. e ≡ WriteError.Memory) }
 {
     let text = String::from_str(alloc, item.name)?;
     let declaration = Declaration::Export(text, description);
@@ -436,7 +329,10 @@ pub(crate) fn export_resource(
     types: &Types,
     item: Item<'_>,
 ) -> Result<(), WriteError>
-    ensures { ExportsFresh types.now item.entry scope.old scope.new result }
+    ensures exports { ExportsFresh types.now item.entry scope.old scope.new result }
+    ensures held { Stands types.now item.entry.kind → OnOk result (Holds types.now scope.new.types item.entry.kind) }
+    ensures keeps { OnOk result (KeepsTypes scope.old.types scope.new.types) }
+    ensures refused { IfErr result (λ e. e ≡ WriteError.Memory) }
 {
     types.see_acyclic();
     let _ = export_described(alloc, scope, types, item, Description::Resource)?;
@@ -452,70 +348,22 @@ pub(crate) fn export_item(
     around: Around<'_>,
     item: Item<'_>,
 ) -> Result<u64, WriteError>
-    ensures { ExportsOne types.now around.entry item.entry scope.old scope.new result }
+    ensures exports { ExportsOne types.now around.entry item.entry scope.old scope.new result }
+    ensures keeps { OnOk result (KeepsTypes scope.old.types scope.new.types) }
+    ensures refused { RefusesExport types.now around.entry.used.now around.entry.depth item.entry.kind scope.old result }
 {
+    types.see_acyclic();
     let description = describe(alloc, scope, types, around, item.kind)?;
     export_described(alloc, scope, types, item, description)
 }
 
-/// The export at a place, if it is a resource under its own name that is not written yet.
-fn fresh_at<'a>(types: &'a Types, id: InterfaceId, given: &Names, at: usize) -> Option<Item<'a>>
-    ensures entry { IfSome result (λ x. slice_get (exports_of types.now id) at ≡ Some (x.name.now, x.kind)) }
-    ensures fresh { IfSome result (λ x. IsFresh types.now x.name.now x.kind) }
-    ensures new { IfSome result (λ x. has_name given.now x.name.now ≡ false) }
-{
-    match other_at(types, id, given, at) {
-        Some(item) => {
-            if is_fresh(types, item) {
-                Some(item)
-            } else {
-                None
-            }
-        }
-        None => None,
-    }
-}
-
-/// Exports such a resource, and adds its name.
-fn export_fresh_at(
-    alloc: Global,
-    scope: &mut ItemScope,
-    types: &Types,
-    id: InterfaceId,
-    at: usize,
-    given: &mut Names,
-) -> Result<(), WriteError>
-    requires { AreDistinct (names_of (exports_of types.now id)) }
-    ensures { KeepsWriting types.now id scope.old given.old scope.new given.new result }
-{
-    match fresh_at(types, id, given, at) {
-        Some(item) => {
-            export_resource(alloc, scope, types, item)?;
-            Ok(add_name(alloc, given, item.name)?)
-        }
-        None => Ok(()),
-    }
-}
-
-/// Exports the resources of an interface that no use gives, and adds their names.
-fn export_resources(
-    alloc: Global,
-    scope: &mut ItemScope,
-    types: &Types,
-    id: InterfaceId,
-    given: &mut Names,
-) -> Result<(), WriteError>
-    ensures { KeepsWriting types.now id scope.old given.old scope.new given.new result }
-{
-    let count = export_count(types, id);
-    for at in 0..count {
-        export_fresh_at(alloc, scope, types, id, at, given)?;
-    }
-    Ok(())
-}
-
 /// The export at a place, if it is not written yet.
-fn other_at<'a>(types: &'a Types, id: InterfaceId, given: &Names, at: usize) -> Option<Item<'a>>
+pub(crate) fn other_at<'a>(
+    types: &'a Types,
+    id: InterfaceId,
+    given: &Names,
+    at: usize,
+) -> Option<Item<'a>>
     ensures inside { IfSome result (λ x. IsInside types.now x.kind (ItemKind.Instance id)) }
     ensures entry { IfSome result (λ x. slice_get (exports_of types.now id) at ≡ Some (x.name.now, x.kind)) }
     ensures new { IfSome result (λ x. has_name given.now x.name.now ≡ false) }
@@ -543,7 +391,9 @@ fn export_other_at(
     given: &mut Names,
 ) -> Result<(), WriteError>
     requires { AreDistinct (names_of (exports_of all.types.now all.id)) }
-    ensures { WritesOtherAt all.entry at scope.old given.old scope.new given.new result }
+    ensures writes { WritesOtherAt all.entry at scope.old given.old scope.new given.new result }
+    ensures keeps { OnOk result (KeepsTypes scope.old.types scope.new.types) }
+    ensures refused { RefusesExports all.entry scope.old given.old result }
 {
     match other_at(all.types, all.id, given, at) {
         Some(item) => {
@@ -562,26 +412,14 @@ fn export_others(
     all: PlacedInterface<'_>,
     given: &mut Names,
 ) -> Result<(), WriteError>
-    ensures { WritesOthers all.entry scope.old given.old scope.new given.new result }
+    ensures writes { WritesOthers all.entry scope.old given.old scope.new given.new result }
+    ensures refused { RefusesExports all.entry scope.old given.old result }
 {
     let count = export_count(all.types, all.id);
     for at in 0..count {
         export_other_at(alloc, scope, all, at, given)?;
     }
     Ok(())
-}
-
-/// Writes what stands first in an instance type: used types and resources. The names of what is exported.
-fn begin_instance(
-    alloc: Global,
-    scope: &mut ItemScope,
-    all: PlacedInterface<'_>,
-) -> Result<Names, WriteError>
-    ensures { BeginsInstance all.entry scope.old scope.new result }
-{
-    let mut given = take_uses(alloc, scope, all)?;
-    export_resources(alloc, scope, all.types, all.id, &mut given)?;
-    Ok(given)
 }
 
 /// Writes an instance type; its declarations.
@@ -591,7 +429,8 @@ fn write_instance(
     scope: &mut ItemScope,
     all: PlacedInterface<'_>,
 ) -> Result<Vec<Declaration>, WriteError>
-    ensures { WritesInstance all.entry scope.old result }
+    ensures writes { WritesInstance all.entry scope.old result }
+    ensures refused { RefusesWriting all.entry scope.old result }
 {
     all.types.see_acyclic();
     let mut given = begin_instance(alloc, scope, all)?;
@@ -602,7 +441,8 @@ fn write_instance(
 /// The declarations of an instance type.
 #[cycle(types)]
 fn instance_type(alloc: Global, all: PlacedInterface<'_>) -> Result<Vec<Declaration>, WriteError>
-    ensures { MakesInstance all.entry result }
+    ensures makes { MakesInstance all.entry result }
+    ensures refused { RefusesMaking all.entry result }
 {
     let mut scope = ItemScope::new(alloc);
     write_instance(alloc, &mut scope, all)
@@ -619,6 +459,9 @@ fn push_instance_type(
 ) -> Result<u64, WriteError>
     ensures states { StatesItem types.now around.entry (ItemKind.Instance id) scope.old scope.new result }
     ensures entry { MakesItem types.now scope.old scope.new result }
+    ensures refused { RefusesInstance types.now around.entry.used.now around.entry.depth (ItemKind.Instance id) scope.old result }
+    ensures known { scope.new.types.known ≡ scope.old.types.known }
+    ensures resources { scope.new.types.resources ≡ scope.old.types.resources }
 {
     let inner = around.deeper()?;
     let all = PlacedInterface {
@@ -640,6 +483,8 @@ fn push_component_type(
 ) -> Result<u64, WriteError>
     ensures states { StatesClosed types.now (ItemKind.Component id) scope.old scope.new result }
     ensures entry { MakesItem types.now scope.old scope.new result }
+    ensures known { scope.new.types.known ≡ scope.old.types.known }
+    ensures resources { scope.new.types.resources ≡ scope.old.types.resources }
 {
     let declarations = component_type(alloc, types, id)?;
     scope.add_type(Declaration::ComponentType(declarations))
@@ -654,6 +499,8 @@ fn push_module_type(
 ) -> Result<u64, WriteError>
     ensures states { StatesModule types.now id scope.old scope.new result }
     ensures refused { Stands types.now (ItemKind.Module id) → IfErr result (RefusedModule types.now id) }
+    ensures known { scope.new.types.known ≡ scope.old.types.known }
+    ensures resources { scope.new.types.resources ≡ scope.old.types.resources }
 {
     if !types.has(ItemKind::Module(id)) {
         return Err(WriteError::Unwritable);
@@ -673,6 +520,8 @@ pub(crate) fn push_func_type(
     ensures states { StatesType types.now (ItemKind.Func id) scope.old scope.new result }
     ensures entry { MakesItem types.now scope.old scope.new result }
     ensures refused { RefusedThere types.now (ItemKind.Func id) scope.old.types scope.new.types result }
+    ensures known { OnOk result (KeepsKnown scope.old.types.known.all.items scope.new.types.known.all.items) }
+    ensures resources { scope.new.types.resources ≡ scope.old.types.resources }
 {
     if !types.has(ItemKind::Func(id)) {
         return Err(WriteError::Unwritable);
@@ -690,6 +539,8 @@ fn push_type(
     requires { Stands types.now (ItemKind.Ty ty) }
     ensures states { StatesTypeItem types.now ty scope.old scope.new result }
     ensures refused { IfErr result (RefusedType types.now ty scope.old scope.new) }
+    ensures known { OnOk result (KeepsKnown scope.old.types.known.all.items scope.new.types.known.all.items) }
+    ensures resources { scope.new.types.resources ≡ scope.old.types.resources }
 {
     types.see_acyclic();
     match ty {
@@ -709,6 +560,8 @@ fn push_value_type(
 ) -> Result<u64, WriteError>
     ensures states { StatesType types.now (ItemKind.Value ty) scope.old scope.new result }
     ensures refused { RefusedThere types.now (ItemKind.Value ty) scope.old.types scope.new.types result }
+    ensures known { OnOk result (KeepsKnown scope.old.types.known.all.items scope.new.types.known.all.items) }
+    ensures resources { scope.new.types.resources ≡ scope.old.types.resources }
 {
     define_value(alloc, &mut scope.types, types, ty)
 }
@@ -723,6 +576,8 @@ fn describe_simple(
     requires { Stands types.now kind }
     ensures describes { DescribesSimply types.now kind scope.old scope.new result }
     ensures refused { IfErr result (RefusedItem types.now kind scope.old scope.new) }
+    ensures known { OnOk result (KeepsKnown scope.old.types.known.all.items scope.new.types.known.all.items) }
+    ensures resources { scope.new.types.resources ≡ scope.old.types.resources }
 {
     types.see_acyclic();
     match kind {
@@ -765,6 +620,9 @@ pub(crate) fn describe(
     ensures describes { DescribesItem types.now around.entry kind scope.old scope.new result }
     ensures own { HasEntry kind → DescribesEntry types.now scope.old scope.new result }
     ensures refused { Stands types.now kind → IfErr result (RefusedItem types.now kind scope.old scope.new) }
+    ensures instance { RefusesInstance types.now around.entry.used.now around.entry.depth kind scope.old result }
+    ensures known { OnOk result (KeepsKnown scope.old.types.known.all.items scope.new.types.known.all.items) }
+    ensures resources { scope.new.types.resources ≡ scope.old.types.resources }
 {
     if !types.has(kind) {
         return Err(WriteError::Unwritable);

@@ -13,6 +13,7 @@ pub mod order;
 pub mod prints;
 mod resources;
 pub mod scope;
+mod stock;
 mod type_places;
 pub mod used;
 mod value;

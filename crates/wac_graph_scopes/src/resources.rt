@@ -5,10 +5,12 @@ ghost use Rattle.std.specs.Map.{lookup};
 ghost use Rattle.wac_types_base.specs.contracts.ids.ResourceIdPartialEq.TheImpl.{eq-value};
 ghost use Rattle.wac_types_base.specs.declared.item.ItemKind.{ItemKind};
 ghost use Rattle.wac_types_base.specs.declared.item.«Type».{«Type» as TypeKind};
+ghost use Rattle.wac_types_base.specs.Entries.{value_at};
 ghost use Rattle.wac_types_base.specs.Collection.{Stands};
 ghost use Rattle.wac_types_fit.specs.Trees.{tree_in};
 ghost use Rattle.wac_graph_scopes.specs.declared.fault.WriteError.{WriteError};
 ghost use Rattle.wac_graph_scopes.specs.Refusals.{IsUnnamed};
+ghost use Rattle.wac_graph_scopes.specs.Stock.{Holds, KeepsTypes};
 ghost use Rattle.wac_graph_scopes.specs.Scopes.{FindsEntry, FindsResource, NotesResource, NotesEntry};
 
 use crate::fault::WriteError;
@@ -66,6 +68,9 @@ pub(crate) fn is_unnamed(scope: &TypeScope, types: &Types, id: ResourceId) -> bo
 fn note_root(alloc: Global, scope: &mut TypeScope, name: &str, index: u64) -> Result<(), WriteError>
     ensures notes { NotesResource name.now index scope.old scope.new result }
     ensures known { OnOk result (scope.new.known ≡ scope.old.known) }
+    ensures named { OnOk result (IsSome (value_at scope.new.resources name.now)) }
+    ensures keeps { OnOk result (KeepsTypes scope.old scope.new) }
+    ensures refused { IfErr result (λ e. e ≡ WriteError.Memory) }
 {
     match scope.resource(name) {
         Some(_) => Ok(()),
@@ -89,6 +94,10 @@ pub(crate) fn note_resource(
         → NotesEntry types.now id index scope.old scope.new result }
     ensures own { Stands types.now (ItemKind.Ty (TypeKind.Resource id))
         → OnOk result (IsSome (lookup (eq-value.it id) scope.new.known.resources.entries)) }
+    ensures held { Stands types.now (ItemKind.Ty (TypeKind.Resource id))
+        → OnOk result (Holds types.now scope.new (ItemKind.Ty (TypeKind.Resource id))) }
+    ensures keeps { OnOk result (KeepsTypes scope.old scope.new) }
+    ensures refused { IfErr result (λ e. e ≡ WriteError.Memory) }
 {
     if !types.has(ItemKind::Ty(Type::Resource(id))) {
         return Ok(());

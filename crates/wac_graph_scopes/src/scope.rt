@@ -11,6 +11,7 @@ ghost use Rattle.wac_graph_scopes.specs.declared.scope.KnownType.{KnownType};
 ghost use Rattle.wac_graph_bytes.specs.Typing.{Worlds, Scope, nothing_inside};
 ghost use Rattle.wac_graph_scopes.specs.Prints.{ArePrints};
 ghost use Rattle.wac_graph_scopes.specs.Known.{ArePlaces, HasId, IsNamed, IsIndexOf, FindsPrint};
+ghost use Rattle.wac_graph_scopes.specs.Stock.{KeepsTypes};
 ghost use Rattle.wac_graph_scopes.specs.Scopes.{AreKnown, PutsKnown, IsScope, Exchanges, FindsAt, FindsType, Defines, MakesEntry, ExportsNewType, Remembers, FindsKnown, KnowsResource, NotesResource, NotesEntry};
 
 use crate::prints::Prints;
@@ -135,7 +136,8 @@ impl KnownTypes {
 
     /// Puts a type at an index, in place of an earlier one of its id.
     pub fn put(&mut self, id: DefinedTypeId, index: u64) -> Result<(), AllocError>
-        ensures { PutsKnown id index self.old self.new result }
+        ensures known { PutsKnown id index self.old self.new result }
+        ensures own { OnOk result (HasId self.new.all.items (ValueKind.Defined id)) }
     {
         let ty = ValueType::Defined(id);
         let at = self.all.len();
@@ -180,7 +182,9 @@ impl TypeScope {
 
     /// Exports a type that is the one at an index; the export has an index of its own.
     pub fn export_type(&mut self, name: String, ty: u64) -> Result<u64, AllocError>
-        ensures { ExportsNewType (string_bytes name) ty self.old self.new result }
+        ensures exports { ExportsNewType (string_bytes name) ty self.old self.new result }
+        ensures known { self.new.known ≡ self.old.known }
+        ensures resources { self.new.resources ≡ self.old.resources }
     {
         let own = self.types;
         self.declarations
@@ -214,6 +218,8 @@ impl TypeScope {
     /// Remembers the index of a resource.
     pub fn add_resource(&mut self, name: String, index: u64) -> Result<(), AllocError>
         ensures notes { NotesResource (string_bytes name) index self.old self.new result }
+        ensures own { OnOk result (value_at self.new.resources (string_bytes name) ≡ Some index) }
+        ensures keeps { OnOk result (KeepsTypes self.old self.new) }
         ensures known { self.new.known ≡ self.old.known }
     {
         let _ = self.resources.insert(name, index)?;
@@ -226,6 +232,8 @@ impl TypeScope {
         ensures own { OnOk result (IsSome (lookup (same_resource.it id) self.new.known.resources.entries)) }
         ensures keeps { (r : ResourceId) → IsSome (lookup (same_resource.it r) self.old.known.resources.entries)
             → IsSome (lookup (same_resource.it r) self.new.known.resources.entries) }
+        ensures all { self.new.known.all ≡ self.old.known.all }
+        ensures resources { self.new.resources ≡ self.old.resources }
     {
         match self.entry(id) {
             Some(_) => Ok(()),

@@ -10,6 +10,7 @@ ghost use Rattle.wac_types_fit.specs.Trees.{tree_in, Fit};
 ghost use Rattle.wac_types_fit.specs.Checking.{value_in, HoldsValues, value_tree, place_trees};
 ghost use Rattle.wac_graph_scopes.specs.declared.fault.WriteError.{WriteError};
 ghost use Rattle.wac_graph_scopes.specs.Known.{IsNamed, KeepsKnown};
+ghost use Rattle.wac_graph_scopes.specs.Stock.{KeepsTypes};
 ghost use Rattle.wac_graph_scopes.specs.Refusals.{FindsNeeded, FindsAll, LacksTree, Refused, RefusedHandle, RefusedParts, RefusedApart, RefusedPlace, RefusedThere, RefusedThereApart};
 ghost use Rattle.wac_graph_scopes.specs.Scopes.{KeepsScope, FindsOwn, FindsType, FindsTree, FindsTreeAt, FindsValue, WritesValue, WritesOwn, WritesDefined, WritesType, WritesPlaces, WritesPlace, WritesEntry, WritesIndex, MakesEntry, RemembersValue, NotesValue};
 
@@ -428,6 +429,8 @@ fn note_named(
 ) -> Result<(), WriteError>
     requires { Stands types.now (ItemKind.Value ty) }
     ensures remembers { RemembersValue types.now ty index scope.old scope.new result }
+    ensures keeps { OnOk result (KeepsTypes scope.old scope.new) }
+    ensures refused { IfErr result (λ e. e ≡ WriteError.Memory) }
     ensures found { OnOk result (IsNamed ty scope.new.known.all.items) }
 {
     let print = scope.known.places.prints.of(types, ty)?;
@@ -450,6 +453,8 @@ pub(crate) fn note_value(
 ) -> Result<(), WriteError>
     ensures notes { NotesValue types.now ty index scope.old scope.new result }
     ensures own { Stands types.now (ItemKind.Value ty) → OnOk result (IsNamed ty scope.new.known.all.items) }
+    ensures keeps { OnOk result (KeepsTypes scope.old scope.new) }
+    ensures refused { IfErr result (λ e. e ≡ WriteError.Memory) }
 {
     if !types.has(ItemKind::Value(ty)) {
         return Ok(());
@@ -468,6 +473,8 @@ fn note_own(
 ) -> Result<(), WriteError>
     requires { Stands types.now (ItemKind.Value ty) }
     ensures remembers { RemembersValue types.now ty index scope.old scope.new result }
+    ensures keeps { OnOk result (KeepsTypes scope.old scope.new) }
+    ensures refused { IfErr result (λ e. e ≡ WriteError.Memory) }
     ensures found { OnOk result (IsNamed ty scope.new.known.all.items) }
 {
     if scope.is_named(ty) {
@@ -479,7 +486,8 @@ fn note_own(
 /// Remembers the index of a defined type without a name, unless one is remembered.
 fn note_end(scope: &mut TypeScope, ty: ValueType, index: u64) -> Result<(), WriteError>
     ensures remembers { (c : Collection) → RemembersValue c ty index scope.old scope.new result }
-    ensures keeps { OnOk result (KeepsKnown scope.old.known.all.items scope.new.known.all.items) }
+    ensures refused { IfErr result (λ e. e ≡ WriteError.Memory) }
+    ensures keeps { OnOk result (KeepsTypes scope.old scope.new) }
 {
     let ValueType::Defined(id) = ty else {
         return Ok(());
@@ -506,6 +514,7 @@ pub(crate) fn define_value(
 ) -> Result<u64, WriteError>
     ensures writes { WritesType types.now (tree_in types.now (ItemKind.Value ty)) scope.old scope.new result }
     ensures refused { RefusedThere types.now (ItemKind.Value ty) scope.old scope.new result }
+    ensures known { OnOk result (KeepsKnown scope.old.known.all.items scope.new.known.all.items) }
     ensures resources { scope.new.resources ≡ scope.old.resources }
 {
     if !types.has(ItemKind::Value(ty)) {
@@ -562,6 +571,7 @@ fn define_once(
     ensures writes { WritesType types.now
         (tree_in types.now (ItemKind.Value (ValueType.Defined id))) scope.old scope.new result }
     ensures refused { IfErr result (Refused types.now (ItemKind.Value (ValueType.Defined id)) scope.old scope.new) }
+    ensures known { OnOk result (KeepsKnown scope.old.known.all.items scope.new.known.all.items) }
     ensures resources { scope.new.resources ≡ scope.old.resources }
 {
     match known_index(alloc, scope, types, id, is_item)? {
@@ -725,6 +735,7 @@ pub(crate) fn push_func(
     ensures writes { WritesType types.now (tree_in types.now (ItemKind.Func id)) scope.old scope.new result }
     ensures entry { MakesEntry types.now scope.old scope.new result }
     ensures refused { IfErr result (Refused types.now (ItemKind.Func id) scope.old scope.new) }
+    ensures known { OnOk result (KeepsKnown scope.old.known.all.items scope.new.known.all.items) }
     ensures resources { scope.new.resources ≡ scope.old.resources }
 {
     types.see_acyclic();

@@ -1,5 +1,5 @@
 -- What a walk over uses remembers.
-use Rattle.std.proofs.Common.{◌≡◌, ◌⊎◌, ℕ, ◌+◌, ◌<◌, ◌≤◌, Bool, true, false, true≢false, not, ◌||◌, List, [], ◌∷◌, ◌++◌, Some, None, inl, inr, refl, sym, ap, ◌∙◌, subst, arith, if◌then◌else◌}
+use Rattle.std.proofs.Common.{◌≡◌, ◌⊎◌, ℕ, ◌+◌, ◌<◌, ◌≤◌, Bool, true, false, true≢false, not, List, [], ◌∷◌, ◌++◌, Some, None, inl, inr, refl, sym, ap, ◌∙◌, subst, arith, if◌then◌else◌}
 use Rattle.std.specs.Bool.{Decides}
 use Rattle.std.specs.List.{list_any}
 use Rattle.std.proofs.lemmas.Bool.Decides.{Decides-like}
@@ -22,7 +22,7 @@ use Rattle.wac_writable.specs.Unnamed.{KnowsAll}
 use Rattle.wac_writable.specs.Tests.{used_of}
 use Rattle.wac_writable.specs.Uses.{TypesFail, AddedFails, UseFails}
 use Rattle.wac_writable.specs.Givers.{instance_of, givers_by, NeedsFailing, AllFine, KnowsBelow, Goes, TellsBeside}
-use Rattle.wac_types_parts.proofs.Ids.{same_interface, any_interface}
+use Rattle.wac_types_parts.proofs.Ids.{any_interface}
 use Rattle.wac_writable.proofs.UseLaws.{tells_no}
 use Rattle.wac_types_base.proofs.Lists.{always}
 

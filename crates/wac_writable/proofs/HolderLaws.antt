@@ -143,7 +143,7 @@ taken_names (u ∷ us) n m = by (usable (value_at (exports_of u.interface) (ther
 taken_names [] n m = m
 
 -- what is of a kind that can be used was there
-used_from : (o : Option ItemKind) (k : ItemKind) → used_if o ≡ Some k → o ≡ Some k
+pub used_from : (o : Option ItemKind) (k : ItemKind) → used_if o ≡ Some k → o ≡ Some k
 used_from None k e = e
 used_from (Some (ItemKind.Ty (TypeKind.Resource r))) k e = e
 used_from (Some (ItemKind.Ty (TypeKind.Value v))) k e = e
@@ -234,7 +234,7 @@ module _ (c : Collection) (a : IsAcyclic c) where
   abbrev named : {X : Type 0} → Name → X → Name × X
   named n x = (n, x)
 
-  takes : (u : Name × UsedType) → taken (record { name = u.0; there = u.1.name; interface = stated_of c (ItemKind.Instance u.1.interface) }) ≡ option_map (λ k. named u.0 (stated_of c k)) (used_if (value_at (exports_in c u.1.interface) (unwrap_or u.1.name u.0)))
+  pub takes : (u : Name × UsedType) → taken (record { name = u.0; there = u.1.name; interface = stated_of c (ItemKind.Instance u.1.interface) }) ≡ option_map (λ k. named u.0 (stated_of c k)) (used_if (value_at (exports_in c u.1.interface) (unwrap_or u.1.name u.0)))
   takes u =
       ap (λ l. option_map (named u.0) (usable (value_at l (unwrap_or u.1.name u.0)))) (exports_are c a u.1.interface)
       ∙ ap (λ o. option_map (named u.0) (usable o)) (value_with (stated_of c) (exports_in c u.1.interface) (unwrap_or u.1.name u.0))

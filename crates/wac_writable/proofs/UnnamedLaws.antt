@@ -1,6 +1,6 @@
 -- Interfaces without identifiers that are reached, one use after the other.
 use Rattle.std.specs.Prelude.{not, is_some, ◌<◌, ◌==◌, is_none}
-use Rattle.std.proofs.Common.{rules, ◌≡◌, ◌↔◌, IsTrue, ℕ, zero, suc, ◌≤◌, ◌+◌, ◌||◌, Bool, true, false, true≢false, List, [], ◌∷◌, Option, Some, None, map, drop, length, slice_get, unwrap_or, option_copied, OnOk, IfOk, Bor, Result, Ok, Err, refl, sym, ap, ◌∙◌, arith, ◌⊎◌, inl, inr}
+use Rattle.std.proofs.Common.{◌≡◌, ℕ, zero, suc, ◌≤◌, ◌+◌, ◌||◌, Bool, true, false, true≢false, List, [], ◌∷◌, Option, Some, None, map, drop, length, slice_get, unwrap_or, option_copied, OnOk, IfOk, Bor, Result, Ok, Err, refl, sym, ap, ◌∙◌, arith, ◌⊎◌, inl, inr}
 use Rattle.std.proofs.lemmas.Bool.Decides.{nat_tests}
 use Rattle.std.specs.Option.{option_map}
 use Rattle.std.specs.List.{list_any, flat_map}

@@ -29,7 +29,11 @@ use Rattle.wac_graph_scopes.specs.Imports.{WritesWorld, MayDescribeIn, ExportsWr
 use Rattle.wac_graph_scopes.specs.Items.{StatesComponent}
 use Rattle.wac_graph_scopes.proofs.OrderLaws.{distinct-left, distinct-right}
 use Rattle.wac_graph_scopes.proofs.ImportLaws.{written, world_describes, world_exports_indexed, place_of_name, no_name_at, name_added, next_new, next_names, all_named, others_new, ordered_names, states_component, component_described, world_stands}
-use Rattle.std.proofs.lemmas.Result.{err_from_is_err_and, IfOk-weaker}
+use Rattle.std.proofs.lemmas.Result.{err_from_is_err_and, IfOk-weaker, on_ok_weaker}
+use Rattle.wac_types_base.proofs.Looked.{among-get}
+use Rattle.wac_graph_scopes.specs.Used.{Used}
+use Rattle.wac_graph_scopes.specs.InstanceRefusals.{InstanceRefused, too_deep, use_refused}
+use Rattle.wac_graph_scopes.proofs.StockLaws.{KeepsTypes-trans, keeps_listed, stock_on, refused_memory, item_refused, export_is_refused, one_interface}
 use Rattle.wac_graph_scopes.proofs.RefusedLaws.{interface_unsaid, world_unsaid}
 use Rattle.wac_graph_scopes.proofs.+types.Goals as goal
 
@@ -39,33 +43,33 @@ items::push_instance_type-returns-clause-states m c stands w outer i h are =
     let t = tree_in types (ItemKind.Instance c.args.id) in
     let inner = c.in_ok-inner.inner in
     let deep = used_deeper w types (i.here ∷ outer) c.args.around.depth inner.depth c.args.around.used.now inner.used.now c.in_ok-inner.ensures.depth c.in_ok-inner.ensures.used are in
-    let reads = c.in_ok-declarations.ensures stands w (i.here ∷ outer) deep in
+    let reads = c.in_ok-declarations.ensures.makes stands w (i.here ∷ outer) deep in
     IfOk-weaker c.add_type.result _ _ (λ k a. type_given w types outer i t c.add_type.new.self k a) (c.add_type.ensures.adds w types outer i (Known t) h (instance_reads w outer i c.in_ok-declarations.declarations t reads))
 
-pub items::instance_type-returns : goal.items::instance_type-returns
-items::instance_type-returns m c stands w outer around =
+pub items::instance_type-returns-clause-makes : goal.items::instance_type-returns-clause-makes
+items::instance_type-returns-clause-makes m c stands w outer around =
     let types = c.args.all.types.now in
-    c.write_instance.ensures stands w outer around (writes_none w types outer c.args.all.id c.new-scope.result (c.new-scope.ensures w types outer))
+    c.write_instance.ensures.writes stands w outer around (writes_none w types outer c.args.all.id c.new-scope.result (c.new-scope.ensures w types outer))
 
-pub items::write_instance-returns : goal.items::write_instance-returns
-items::write_instance-returns m c stands w outer around k =
+pub items::write_instance-returns-clause-writes : goal.items::write_instance-returns-clause-writes
+items::write_instance-returns-clause-writes m c stands w outer around k =
     let types = c.args.all.types.now in
     let id = c.args.all.id in
     let es = exports_of types id in
-    let o = c.in_ok-export_others.ensures stands w outer around (c.in_ok-given.ensures w outer around k) in
+    let o = c.in_ok-export_others.ensures.writes stands w outer around (c.in_ok-given.ensures.begins w outer around k) in
     let x = interface_found types id stands in
     let all = λ (n : Name) (a : Among n (names_of es)). o.all_before n (all_taken es n a) in
     subst (λ ds. StatesInstance w outer (tree_in types (ItemKind.Instance id)) (declarations_of ds)) (sym c.take_declarations.ensures)
     (states_instance w types c.see_acyclic.ensures outer id x.value c.export_others.new.scope c.export_others.new.given x.at x.own (exports_there types id x.value x.at x.own) o.writing all)
 
-pub items::export_others-returns : goal.items::export_others-returns
-items::export_others-returns m c stands w outer around k =
+pub items::export_others-returns-clause-writes : goal.items::export_others-returns-clause-writes
+items::export_others-returns-clause-writes m c stands w outer around k =
     let types = c.args.all.types.now in
     let end : c.loop-at.at ≡ length (exports_of types c.args.all.id) = omega (arith, c.loop-at-test.false, c.export_count-count.ensures.len) in
-    subst (λ (n : ℕ). ItemsWritten w types outer c.args.all.id n c.loop-at.scope c.loop-at.given) end (c.loop-at.invariant stands w outer around k)
+    subst (λ (n : ℕ). ItemsWritten w types outer c.args.all.id n c.loop-at.scope c.loop-at.given) end (c.loop-at.invariant.written stands w outer around k)
 
-pub items::export_other_at-returns-in_ok-add_name-in-Some : goal.items::export_other_at-returns-in_ok-add_name-in-Some
-items::export_other_at-returns-in_ok-add_name-in-Some m c stands w outer around o =
+pub items::export_other_at-returns-in_ok-add_name-in-Some-clause-writes : goal.items::export_other_at-returns-in_ok-add_name-in-Some-clause-writes
+items::export_other_at-returns-in_ok-add_name-in-Some-clause-writes m c stands w outer around o =
     let types = c.args.all.types.now in
     let es = exports_of types c.args.all.id in
     let item = c.in-Some.item in
@@ -73,7 +77,7 @@ items::export_other_at-returns-in_ok-add_name-in-Some m c stands w outer around 
     let given = c.args.given.now in
     let k = o.writing in
     let entry = c.in-Some.ensures.entry in
-    let e = (c.in_ok-export_item-in-Some.ensures c.in-Some.ensures.inside.0 w outer k.inside k.stands (around k.inside.here)).exported in
+    let e = (c.in_ok-export_item-in-Some.ensures.exports c.in-Some.ensures.inside.0 w outer k.inside k.stands (around k.inside.here)).exported in
     let more = c.in_ok-add_name-in-Some.ensures in
     let here = name_at es c.args.at n item.kind entry in
     record {
@@ -85,19 +89,19 @@ items::export_other_at-returns-in_ok-add_name-in-Some m c stands w outer around 
       ];
     }
 
-pub items::export_other_at-returns-in-None : goal.items::export_other_at-returns-in-None
-items::export_other_at-returns-in-None m c stands w outer around o = record {
+pub items::export_other_at-returns-in-None-clause-writes : goal.items::export_other_at-returns-in-None-clause-writes
+items::export_other_at-returns-in-None-clause-writes m c stands w outer around o = record {
   writing = o.writing;
   all_before = λ p a. elim (take_or p (names_of (exports_of c.args.all.types.now c.args.all.id)) c.args.at a) [ inl old ↦ o.all_before p old | inr at ↦ among_has c.args.given.now p (c.in-None.ensures.none p at) ];
 }
 
-pub items::export_item-returns : goal.items::export_item-returns
-items::export_item-returns m c stands w outer i h are =
+pub items::export_item-returns-clause-exports : goal.items::export_item-returns-clause-exports
+items::export_item-returns-clause-exports m c stands w outer i h are =
     let types = c.args.types.now in
     let n = c.args.item.name.now in
     let d = c.in_ok-description.ensures.describes w outer i h are in
     IfOk-weaker c.export_described.result _ _ (λ u e. index_follows w types outer i d.after n c.args.item.kind c.describe.new.scope c.export_described.new.scope u d.goes e)
-    (c.export_described.ensures w outer d.after d.goes.stands stands d.sorted (d.reads n))
+    (c.export_described.ensures.exports w outer d.after d.goes.stands stands d.sorted (d.reads n))
 
 pub items::describe-returns-in-Some-clause-describes : goal.items::describe-returns-in-Some-clause-describes
 items::describe-returns-in-Some-clause-describes m c w outer i h are =
@@ -141,6 +145,104 @@ items::push_instance_type-returns-clause-entry m c w outer i h = c.add_type.ensu
 pub items::push_component_type-returns-clause-entry : goal.items::push_component_type-returns-clause-entry
 items::push_component_type-returns-clause-entry m c w outer i h = c.add_type.ensures.entry (component_declared c.in_ok-declarations.declarations) w c.args.types.now outer i h
 
+-- ---- why an instance type is refused
+
+pub items::push_instance_type-returns-in_err-inner-clause-refused : goal.items::push_instance_type-returns-in_err-inner-clause-refused
+items::push_instance_type-returns-in_err-inner-clause-refused m c stands id is w outer i h are =
+    let p = err_from_is_err_and c.from_residual.result c.from_residual.ensures.1 in
+    rw (p.1, p.2) (λ un. too_deep c.in_err-inner.ensures.refused.1)
+
+pub items::push_instance_type-returns-in_err-declarations-clause-refused : goal.items::push_instance_type-returns-in_err-declarations-clause-refused
+items::push_instance_type-returns-in_err-declarations-clause-refused m c stands id is w outer i h are =
+    let types = c.args.types.now in
+    let inner = c.in_ok-inner.inner in
+    let depth = c.args.around.depth in
+    let deep = used_deeper w types (i.here ∷ outer) depth inner.depth c.args.around.used.now inner.used.now c.in_ok-inner.ensures.depth c.in_ok-inner.ensures.used are in
+    let p = err_from_is_err_and c.from_residual-in_err-declarations.result c.from_residual-in_err-declarations.ensures.1 in
+    rw (p.1, p.2) (λ un.
+    let refused = c.in_err-declarations.ensures.refused stands w (i.here ∷ outer) deep un depth c.in_ok-inner.ensures.depth in
+    subst (InstanceRefused types c.args.around.used.now depth) is (subst (λ (us : Used). InstanceRefused types us depth c.args.id) c.in_ok-inner.ensures.used refused))
+
+pub items::push_instance_type-returns-clause-refused : goal.items::push_instance_type-returns-clause-refused
+items::push_instance_type-returns-clause-refused m c stands id is w outer i h are = refused_memory c.add_type.result _ c.add_type.ensures.refused
+
+pub items::instance_type-returns-clause-refused : goal.items::instance_type-returns-clause-refused
+items::instance_type-returns-clause-refused m c stands w outer around =
+    let types = c.args.all.types.now in
+    c.write_instance.ensures.refused stands w outer around (writes_none w types outer c.args.all.id c.new-scope.result (c.new-scope.ensures w types outer))
+
+pub items::write_instance-returns-in_err-given-clause-refused : goal.items::write_instance-returns-in_err-given-clause-refused
+items::write_instance-returns-in_err-given-clause-refused m c stands w outer around k =
+    let p = err_from_is_err_and c.from_residual.result c.from_residual.ensures.1 in
+    rw (p.1, p.2) (λ un depth e. use_refused (c.in_err-given.ensures.refused un))
+
+pub items::write_instance-returns-in_err-export_others-clause-refused : goal.items::write_instance-returns-in_err-export_others-clause-refused
+items::write_instance-returns-in_err-export_others-clause-refused m c stands w outer around k =
+    let p = err_from_is_err_and c.from_residual-in_err-export_others.result c.from_residual-in_err-export_others.ensures.1 in
+    rw (p.1, p.2) (c.in_err-export_others.ensures.refused stands c.in_ok-given.ensures.held w outer around (c.in_ok-given.ensures.begins w outer around k))
+
+pub items::export_others-returns-in_err-export_other_at-clause-refused : goal.items::export_others-returns-in_err-export_other_at-clause-refused
+items::export_others-returns-in_err-export_other_at-clause-refused m c stands stock w outer around k =
+    let types = c.args.all.types.now in
+    let there = stock_on types c.args.all.around.used.now c.args.all.id c.args.scope.now.types c.loop-at.scope.types c.loop-at.invariant.keeps stock in
+    let p = err_from_is_err_and c.from_residual.result c.from_residual.ensures.1 in
+    rw (p.1, p.2) (c.in_err-export_other_at.ensures.refused stands there w outer around (c.loop-at.invariant.written stands w outer around k).writing)
+
+pub items::export_others-loop-at-preserved : goal.items::export_others-loop-at-preserved
+items::export_others-loop-at-preserved m c = record {
+  written = λ stands w outer around k. c.in_ok-export_other_at.ensures.writes stands w outer around (c.loop-at.invariant.written stands w outer around k);
+  keeps = KeepsTypes-trans c.args.scope.now.types c.loop-at.scope.types c.export_other_at.new.scope.types c.loop-at.invariant.keeps c.in_ok-export_other_at.ensures.keeps;
+}
+
+pub items::export_other_at-returns-in_err-export_item-in-Some-clause-refused : goal.items::export_other_at-returns-in_err-export_item-in-Some-clause-refused
+items::export_other_at-returns-in_err-export_item-in-Some-clause-refused m c stands stock w outer around k =
+    let types = c.args.all.types.now in
+    let id = c.args.all.id in
+    let item = c.in-Some.item in
+    let entry = c.in-Some.ensures.entry in
+    let among = among-get (exports_of types id) c.args.at (item.name.now, item.kind) entry in
+    let p = err_from_is_err_and c.from_residual.result c.from_residual.ensures.1 in
+    rw (p.1, p.2) (λ un depth e.
+    export_is_refused types c.args.all.around.used.now depth c.args.all.around.depth id item.name.now item.kind e among
+    (c.in_err-export_item-in-Some.ensures.refused c.in-Some.ensures.inside.0 w outer k.inside k.stands (around k.inside.here) id stock un))
+
+pub items::export_item-returns-in_err-description-clause-refused : goal.items::export_item-returns-in_err-description-clause-refused
+items::export_item-returns-in_err-description-clause-refused m c stands w outer i h are id stock =
+    let types = c.args.types.now in
+    let s = c.args.scope.now in
+    let u = c.describe.new.scope in
+    let kind = c.args.item.kind in
+    let around = c.args.around in
+    let e = c.in_err-description.field-0.0 in
+    let p = err_from_is_err_and c.from_residual.result c.from_residual.ensures.1 in
+    rw (p.1, p.2) (item_refused types c.see_acyclic.ensures around.used.now around.depth id kind s u e stock (w, outer, i, h.written) stands c.describe.ensures.resources (c.in_err-description.ensures.refused stands)
+    (λ inner of un. c.in_err-description.ensures.instance stands inner of w outer i h are un))
+
+pub items::export_item-returns-clause-refused : goal.items::export_item-returns-clause-refused
+items::export_item-returns-clause-refused m c stands w outer i h are id stock = refused_memory c.export_described.result _ c.export_described.ensures.refused
+
+pub items::export_item-returns-clause-keeps : goal.items::export_item-returns-clause-keeps
+items::export_item-returns-clause-keeps m c =
+    let s = c.args.scope.now.types in
+    let u = c.describe.new.scope.types in
+    on_ok_weaker c.export_described.result (KeepsTypes-trans s u c.export_described.new.scope.types (keeps_listed s u c.in_ok-description.ensures.known c.describe.ensures.resources)) c.export_described.ensures.keeps
+
+pub items::describe-returns-in_err-index-clause-instance : goal.items::describe-returns-in_err-index-clause-instance
+items::describe-returns-in_err-index-clause-instance m c stands id is w outer i h are =
+    let types = c.args.types.now in
+    let own = c.in-Some.id in
+    let of = c.in-Some.ensures.kind in
+    let same = one_interface c.args.kind own id of is in
+    let p = err_from_is_err_and c.from_residual.result c.from_residual.ensures.1 in
+    rw (p.1, p.2) (λ un. subst (InstanceRefused types c.args.around.used.now c.args.around.depth) same (c.in_err-index.ensures.refused (interface_stands types c.args.kind own of stands) own refl w outer i h are un))
+
+-- of a world that is no interface nothing is said here
+pub items::describe-returns-in_err-index-2-clause-instance : goal.items::describe-returns-in_err-index-2-clause-instance
+items::describe-returns-in_err-index-2-clause-instance m c stands id is w outer i h are = absurd (c.in_default.ensures.none stands id is)
+
+pub items::describe-returns-clause-instance : goal.items::describe-returns-clause-instance
+items::describe-returns-clause-instance m c stands id is w outer i h are = absurd (c.in_default.ensures.none stands id is)
+
 -- ---- imports
 
 pub imports::ImportScope::describe-returns-clause-describes : goal.imports::ImportScope::describe-returns-clause-describes
@@ -183,10 +285,10 @@ imports::ImportScope::export-returns m c w outer imported exported stands is new
     let types = c.args.all.types.now in
     let world = c.args.all.world in
     let n = c.args.item.name.now in
-    let k = (c.in_ok-prepare.ensures w outer h.writing.inside imported exported (written w types outer world imported exported c.args.self.now h)).goes in
+    let k = (c.in_ok-prepare.ensures.keeps w outer h.writing.inside imported exported (written w types outer world imported exported c.args.self.now h)).goes in
     let i = k.writing.inside in
     IfOk-weaker c.export_item.result _ _ (λ u e. world_exports_indexed w types outer world imported exported c.prepare.new.self c.export_item.new.scope k n c.args.item.kind (exported ++ n ∷ []) u is e new (sym (put_name-new exported n new)))
-    (c.export_item.ensures stands w outer i k.writing.stands k.used)
+    (c.export_item.ensures.exports stands w outer i k.writing.stands k.used)
 
 pub worlds::write_imports-loop-at-preserved : goal.worlds::write_imports-loop-at-preserved
 worlds::write_imports-loop-at-preserved m c w outer imported exported dn d new h =

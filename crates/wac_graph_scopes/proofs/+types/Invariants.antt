@@ -7,6 +7,7 @@ use Rattle.wac_types_parts.specs.Parts.{imports_of}
 use Rattle.wac_graph_scopes.specs.Imports.{IsNewAt, names_at, WritesWorld, ExportsWritten}
 use Rattle.wac_graph_bytes.specs.Typing.{Worlds, Scope}
 use Rattle.wac_graph_scopes.specs.Items.{StandsAround, WritesSome, ItemsWritten}
+use Rattle.wac_graph_scopes.specs.Stock.{KeepsTypes}
 use Rattle.wac_graph_scopes.proofs.+types.Given as goal
 
 abbrev pub decreases-imports::ImportScope::describe : goal.decreases-imports::ImportScope::describe
@@ -55,8 +56,11 @@ abbrev pub decreases-items::export_other_at : goal.decreases-items::export_other
 decreases-items::export_other_at l = 16 * size_of l.all.types.now (ItemKind.Instance l.all.id) + 0
 
 abbrev pub invariant-items::export_others-loop-at : goal.invariant-items::export_others-loop-at
-invariant-items::export_others-loop-at l = Stands l.all.types.now (ItemKind.Instance l.all.id) → (w : Worlds) (outer : List Scope) → StandsAround w outer l.all
-    → WritesSome w l.all.types.now outer l.all.id l.fn.scope l.fn.given → ItemsWritten w l.all.types.now outer l.all.id l.at l.scope l.given
+invariant-items::export_others-loop-at l = record {
+  written : Stands l.all.types.now (ItemKind.Instance l.all.id) → (w : Worlds) (outer : List Scope) → StandsAround w outer l.all
+      → WritesSome w l.all.types.now outer l.all.id l.fn.scope l.fn.given → ItemsWritten w l.all.types.now outer l.all.id l.at l.scope l.given;
+  keeps : KeepsTypes l.fn.scope.types l.scope.types;
+}
 
 abbrev pub decreases-items::export_others : goal.decreases-items::export_others
 decreases-items::export_others l = 16 * size_of l.all.types.now (ItemKind.Instance l.all.id) + 1

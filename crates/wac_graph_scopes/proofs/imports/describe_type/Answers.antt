@@ -12,6 +12,7 @@ use Rattle.wac_graph_scopes.specs.declared.items.ItemScope.{ItemScope}
 use Rattle.wac_graph_scopes.specs.ItemRefusals.{RefusedTypeApart}
 use Rattle.wac_graph_scopes.proofs.UsedLaws.{func_item, value_item}
 use Rattle.wac_graph_scopes.proofs.WritingLaws.{typed_func_stands, gives_of, item_of_type, type_described, describes_kind}
+use Rattle.wac_types_parts.specs.Parts.{IsOfInterface}
 use Rattle.wac_graph_scopes.proofs.imports.describe_type.Goals as goal
 
 pub returns-in_ok-index-in-Value-clause-describes : goal.returns-in_ok-index-in-Value-clause-describes
@@ -61,3 +62,15 @@ returns-in_ok-index-in-Value-clause-own c own w outer i h = (c.in_ok-index-in-Va
 
 pub returns-in_ok-index-in-Func-clause-own : goal.returns-in_ok-index-in-Func-clause-own
 returns-in_ok-index-in-Func-clause-own c own w outer i h = (c.in_ok-index-in-Func.index, refl, c.in_ok-index-in-Func.ensures.entry w outer i h)
+
+pub returns-in_ok-index-in-Value-clause-instance : goal.returns-in_ok-index-in-Value-clause-instance
+returns-in_ok-index-in-Value-clause-instance c stands id is = absurd (subst (λ (t : TypeKind). IsOfInterface (ItemKind.Ty t) id) c.in-Value.is is)
+
+pub returns-in_err-index-in-Value-clause-instance : goal.returns-in_err-index-in-Value-clause-instance
+returns-in_err-index-in-Value-clause-instance c stands id is = absurd (subst (λ (t : TypeKind). IsOfInterface (ItemKind.Ty t) id) c.in-Value.is is)
+
+pub returns-in_err-index-in-Func-clause-instance : goal.returns-in_err-index-in-Func-clause-instance
+returns-in_err-index-in-Func-clause-instance c stands id is = absurd (subst (λ (t : TypeKind). IsOfInterface (ItemKind.Ty t) id) c.in-Func.is is)
+
+pub returns-in-Module-clause-instance : goal.returns-in-Module-clause-instance
+returns-in-Module-clause-instance c stands id is = absurd (subst (λ (t : TypeKind). IsOfInterface (ItemKind.Ty t) id) c.in-Module.is is)

@@ -1,12 +1,13 @@
-use Rattle.std.proofs.Common.{◌∷◌, ◌∙◌, subst}
+use Rattle.std.proofs.Common.{◌∷◌, ◌∙◌, ap, subst}
 use Rattle.std.specs.Prelude.{IfSome}
-use Rattle.std.proofs.lemmas.Result.{IfOk-weaker}
+use Rattle.std.proofs.lemmas.Result.{IfOk-weaker, on_ok_weaker}
 use Rattle.wac_types_base.specs.declared.item.ItemKind.{ItemKind}
 use Rattle.wac_types_base.specs.declared.item.ValueType.{ValueType}
 use Rattle.wac_types_fit.specs.Trees.{tree_in}
 use Rattle.wac_graph_scopes.specs.Scopes.{StandsFor}
 use Rattle.wac_graph_scopes.proofs.RefusedLaws.{if_err_map, whole_refused, later_same_list}
 use Rattle.wac_graph_scopes.proofs.UsedLaws.{type_there, type_answered}
+use Rattle.wac_graph_scopes.proofs.PlaceLaws.{KeepsKnown-trans, known_same_list}
 use Rattle.wac_graph_scopes.proofs.value.define_once.Goals as goal
 
 pub returns-in-Some-clause-writes : goal.returns-in-Some-clause-writes
@@ -30,3 +31,9 @@ returns-in-None-clause-refused c =
     let later = later_same_list types s mid c.known_index.ensures.keeps c.known_index.ensures.known in
     let resources = c.define_entry.ensures.resources ∙ c.known_index.ensures.resources in
     if_err_map c.define_entry.result (λ e h. whole_refused types c.args.id s mid u e c.in_ok-index.field-0 later resources c.in-None.is c.in_ok-index.ensures.none h) c.define_entry.ensures.refused
+
+pub returns-in-None-clause-known : goal.returns-in-None-clause-known
+returns-in-None-clause-known c =
+    let old = c.args.scope.now.known.all.items in
+    let mid = c.known_index.new.scope.known.all.items in
+    on_ok_weaker c.define_entry.result (KeepsKnown-trans old mid c.define_entry.new.scope.known.all.items (known_same_list old mid (ap (λ v. v.items) c.known_index.ensures.known))) c.define_entry.ensures.known

@@ -5,7 +5,8 @@ use Rattle.wac_graph_scopes.specs.declared.scope.KnownTypes.{KnownTypes}
 use Rattle.wac_graph_scopes.specs.Prints.{ArePrints}
 use Rattle.wac_graph_scopes.specs.Known.{FindsPrint}
 use Rattle.wac_types_base.proofs.Lists.{last_among}
-use Rattle.wac_graph_scopes.proofs.PlaceLaws.{scope_printed, places_printed}
+use Rattle.wac_graph_scopes.proofs.PlaceLaws.{scope_printed, places_printed, known_pushed}
+use Rattle.wac_graph_scopes.proofs.StockLaws.{keeps_listed}
 use Rattle.wac_graph_scopes.proofs.value.note_named.Goals as goal
 
 pub returns-clause-remembers : goal.returns-clause-remembers
@@ -23,3 +24,7 @@ pub returns-clause-found : goal.returns-clause-found
 returns-clause-found c =
     let k : KnownType = record { ty = c.args.ty; index = c.args.index; named = true } in
     (k, subst (Among k) (sym c.in_ok-remember.ensures.all) (last_among _ k), refl, refl)
+
+pub returns-clause-keeps : goal.returns-clause-keeps
+returns-clause-keeps c =
+    keeps_listed c.args.scope.now c.remember.new.self (known_pushed c.args.scope.now.known.all.items c.remember.new.self.known.all.items _ c.in_ok-remember.ensures.all) c.remember.ensures.resources

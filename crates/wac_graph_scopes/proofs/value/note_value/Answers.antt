@@ -3,6 +3,7 @@ use Rattle.indexmap.proofs.MapLemmas.{OnOk-map}
 use Rattle.wac_types_base.specs.declared.item.ItemKind.{ItemKind}
 use Rattle.wac_types_fit.proofs.Unfolded.{same_tree, end_no_alias}
 use Rattle.wac_graph_scopes.proofs.UsedLaws.{item_value}
+use Rattle.wac_graph_scopes.proofs.StockLaws.{KeepsTypes-trans}
 use Rattle.wac_graph_scopes.proofs.value.note_value.Goals as goal
 
 pub returns-clause-notes : goal.returns-clause-notes
@@ -19,4 +20,7 @@ returns-clause-notes c w outer i h e =
 pub returns-clause-own : goal.returns-clause-own
 returns-clause-own c stands =
     let known = c.in_ok-note_own.ensures.found in
-    OnOk-map c.note_end.result _ _ (λ keeps. (known.0, keeps known.0 known.1, known.2, known.3)) c.note_end.ensures.keeps
+    OnOk-map c.note_end.result _ _ (λ keeps. (known.0, keeps.known known.0 known.1, known.2, known.3)) c.note_end.ensures.keeps
+
+pub returns-clause-keeps : goal.returns-clause-keeps
+returns-clause-keeps c = OnOk-map c.note_end.result _ _ (KeepsTypes-trans c.args.scope.now c.note_own.new.scope c.note_end.new.scope c.in_ok-note_own.ensures.keeps) c.note_end.ensures.keeps

@@ -5,6 +5,7 @@ use Rattle.std.proofs.lemmas.Result.{err_from_is_err_and}
 use Rattle.wac_types_base.specs.declared.item.ItemKind.{ItemKind}
 use Rattle.wac_graph_scopes.proofs.RefusedLaws.{parts_refused, later_same}
 use Rattle.wac_graph_scopes.proofs.ValueLaws.{func_written}
+use Rattle.wac_graph_scopes.proofs.PlaceLaws.{KeepsKnown-trans, known_same_list}
 use Rattle.wac_graph_scopes.proofs.value.push_func.Goals as goal
 
 pub push_places-requires-clause-values : goal.push_places-requires-clause-values
@@ -26,3 +27,9 @@ returns-in_err-places-clause-refused c =
     let p = err_from_is_err_and c.from_residual.result c.from_residual.ensures.1 in
     let s = c.args.scope.now in
     rw (p.1, p.2) (parts_refused types (ItemKind.Func c.args.id) s s c.push_places.new.scope c.in_err-places.field-0.0 (later_same types s) tt c.in_err-places.ensures.refused)
+
+pub returns-clause-known : goal.returns-clause-known
+returns-clause-known c =
+    let mid = c.push_places.new.scope.known.all.items in
+    let new = c.define.new.self.known.all.items in
+    KeepsKnown-trans c.args.scope.now.known.all.items mid new c.in_ok-places.ensures.known (known_same_list mid new (ap (λ k. k.all.items) c.define.ensures.known))

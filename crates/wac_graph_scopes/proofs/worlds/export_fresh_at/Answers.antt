@@ -12,6 +12,6 @@ returns-in_ok-add_name-in-Some c w outer imported h =
     let world = c.args.all.world in
     let item = c.in-Some.item in
     let n = item.name.now in
-    let e = c.in_ok-export_resource-in-Some.ensures w outer h.writing.inside h.writing.stands c.in-Some.ensures.fresh in
+    let e = c.in_ok-export_resource-in-Some.ensures.exports w outer h.writing.inside h.writing.stands c.in-Some.ensures.fresh in
     world_exports w types outer world imported c.args.exported.now c.args.scope.now c.export_resource.new.scope h n (tree_in types item.kind) c.add_name.new.names
     (item.kind, value_here (world_exports_of types world) c.args.at n item.kind c.requires c.in-Some.ensures.entry, refl) e (not_among c.args.exported.now n c.in-Some.ensures.new) c.in_ok-add_name-in-Some.ensures

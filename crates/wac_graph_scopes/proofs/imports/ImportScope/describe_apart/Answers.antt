@@ -42,3 +42,9 @@ returns-clause-own c own w col outer i h known =
     IfOk-weaker c.describe_type-description.result _ _
     (λ d e. (e.0, e.1, subst (λ (t : TypeScope). IsEntryIn w outer t.declarations.items e.0) (sym c.exchange-2.ensures.scope) e.2))
     (c.describe_type-description.ensures.own own w outer i x.0)
+
+pub returns-clause-instance : goal.returns-clause-instance
+returns-clause-instance c stands id is w col outer i h known =
+    let s = c.args.self.now in
+    let x = item_exchanged w col c.args.types.now outer i s.scope c.exchange.new.self c.args.other.now c.exchange.new.other c.exchange.ensures.exchanges h known in
+    c.describe_type-description.ensures.instance stands id is w outer i x.0 (λ j n u m. absurd (cc m))

@@ -22,6 +22,6 @@ returns-clause-imports c w outer i h stands sorted e =
     let x : Sort × Tree = (description_sort d, t) in
     let reads = ap (λ (p : Name). described w (i.here ∷ outer) p d) same ∙ e in
     let a = c.in_ok-index.ensures.adds w types outer i (imports_inside m x i) (Item m (description_sort d) t) h (import_declared w types outer i c.in_ok-text.text d x reads) refl in
-    let s = c.in_ok-note.ensures w outer (imports_inside m x i) a.stands (noted_import w types outer i m c.args.import.kind d c.in_ok-index.index stands sorted a.index) in
+    let s = c.in_ok-note.ensures.notes w outer (imports_inside m x i) a.stands (noted_import w types outer i m c.args.import.kind d c.in_ok-index.index stands sorted a.index) in
     let sorted_as = ap (λ (z : Sort). let p : SortIndex = record { sort = z; index = c.in_ok-index.index } in p) (sym c.sort_of.ensures) in
     subst (λ (p : SortIndex). ImportsItem w types outer i n t d c.note.new.self p) sorted_as (imported_item w types outer i m n t d c.note.new.self c.in_ok-index.index same s a.index)

@@ -4,7 +4,7 @@ use Rattle.wac_types_base.specs.Entries.{Name}
 use Rattle.wac_types_fit.specs.Trees.{tree_in}
 use Rattle.wac_graph_scopes.specs.Used.{IsUsedAs}
 use Rattle.wac_graph_scopes.specs.Items.{Never, IsTypeItem}
-use Rattle.wac_graph_scopes.proofs.items.alias_around.Goals as goal
+use Rattle.wac_graph_scopes.proofs.stock.alias_around.Goals as goal
 
 pub returns-in_ok-alias-in-Some-found-clause-aliases : goal.returns-in_ok-alias-in-Some-found-clause-aliases
 returns-in_ok-alias-in-Some-found-clause-aliases c w outer i h are =
