@@ -1,7 +1,7 @@
--- Packages can be imported where no names are alike and theirs are names of dependencies.
+-- Packages can be imported where no names are alike.
 use Rattle.std.specs.Prelude.{find, is_some, option_map}
 use Rattle.std.specs.Cmp.Lexicographic.{bytes_decides}
-use Rattle.std.proofs.Common.{◌≡◌, ℕ, Bool, true, false, true≢false, List, [], ◌∷◌, ◌++◌, map, Option, Some, None, IsSome, inl, inr, refl, sym, ap, subst, ◌∙◌}
+use Rattle.std.proofs.Common.{◌≡◌, ℕ, Bool, true, false, true≢false, List, [], ◌∷◌, ◌++◌, map, Option, Some, None, inl, inr, refl, sym, ap, subst, ◌∙◌}
 use Rattle.wac_types_base.specs.Entries.{AreDistinct, Name, names_of, value_at}
 use Rattle.wac_types_base.specs.Graph.{Among}
 use Rattle.wac_types_base.specs.Stated.{Stated}
@@ -9,10 +9,8 @@ use Rattle.wac_types_base.specs.Tree.{tree}
 use Rattle.wac_types_base.proofs.Adding.{Among-left, Among-right}
 use Rattle.wac_types_base.proofs.Lists.{among_mapped, value_named}
 use Rattle.wac_types_base.proofs.Standing.{is_some-option_map}
-use Rattle.wac_types_names.specs.Packaged.{Packaged}
-use Rattle.wac_names.specs.ComponentNames.{IsDependency}
 use Rattle.wac_graph_core.specs.declared.ids.PackageId.{PackageId}
-use Rattle.wac_graph_core.specs.Graph.{Graph, IsGraph, package_of, package_if, package_made, instantiated}
+use Rattle.wac_graph_core.specs.Graph.{Graph, IsGraph}
 use Rattle.wac_types_parts.proofs.Lists.{distinct-apart}
 use Rattle.wac_graph_scopes.proofs.OrderLaws.{distinct-right}
 use Rattle.wac_composition.specs.Asks.{asks_of}
@@ -20,17 +18,14 @@ use Rattle.wac_composition.specs.OuterImports.{outer_imports}
 use Rattle.wac_composition.specs.Conflicts.{Cause, ImportNames, alike as alike_names, each_once, lower, name_cause, twins}
 use Rattle.wac_composition.proofs.Against.{find_none, or_none}
 use Rattle.wac_graph_asks.specs.Graphs.{composition_of}
-use Rattle.wac_graph_asks.specs.Asked.{package_ids}
 use Rattle.wac_graph_asks.specs.Wirings.{asked_trees}
 use Rattle.wac_graph_asks.proofs.Arguments.{nothing_there}
 use Rattle.wac_graph_causes.specs.Alike.{dependency_of}
-use Rattle.wac_graph_causes.proofs.Dependencies.{name_is, packages_named}
+use Rattle.wac_graph_causes.proofs.Dependencies.{packages_named}
 use Rattle.wac_graph_encode.specs.declared.options.EncodeOptions.{EncodeOptions}
-use Rattle.wac_graph_encode.specs.Encoding.{HaveDependencyNames}
 use Rattle.wac_graph_encode.specs.Finished.{AreInstantiated}
 use Rattle.wac_graph_encode.specs.Importing.{AreImportable}
 use Rattle.wac_graph_encode.specs.Refused.{HasNoneAlike}
-use Rattle.wac_graph_encode.proofs.Nested.{ids_held, with_among}
 
 abbrev behind : Name → Name → Name × Name
 behind x y = (y, x)
@@ -60,9 +55,9 @@ alike_itself : (validate : Bool) (n : Name) → alike_names validate n n ≡ tru
 alike_itself true n = (bytes_decides (map lower n) (map lower n)).1 refl
 alike_itself false n = (bytes_decides n n).1 refl
 
--- where no names are alike, packages can be imported under names of dependencies
-pub importable : (g : Graph) → IsGraph g → (options : EncodeOptions) (ids : List PackageId) → options.define_components ≡ false → HasNoneAlike options g → HaveDependencyNames g → AreInstantiated g ids → AreImportable g ids
-importable g sound options ids define alike names each = record { named = named; once = subst AreDistinct (sym listed) (distinct-right outers deps distinct); apart = apart }
+-- where no names are alike, packages can be imported
+pub importable : (g : Graph) → IsGraph g → (options : EncodeOptions) (ids : List PackageId) → options.define_components ≡ false → HasNoneAlike options g → AreInstantiated g ids → AreImportable g ids
+importable g sound options ids define alike each = record { once = subst AreDistinct (sym listed) (distinct-right outers deps distinct); apart = apart }
   where
     outers : List Name
     outers = names_of (outer_imports (asks_of (composition_of g)))
@@ -85,12 +80,3 @@ importable g sound options ids define alike names each = record { named = named;
         go None e = refl
         go (Some x) e = absurd (distinct-apart (dependency_of g id) outers deps distinct (value_named (outer_imports (asks_of (composition_of g))) (dependency_of g id) x e)
             (subst (Among (dependency_of g id)) listed (among_mapped (dependency_of g) ids id m)))
-
-    named : (id : PackageId) → Among id ids → IsDependency (dependency_of g id)
-    named id m =
-        let k = ids_held g sound id (elim (with_among [] (package_ids g) id (subst (Among id) each m)) [ inl x ↦ absurd x | inr y ↦ y ]) in
-        go (package_of g id) refl ((sound.nodes k.0 k.1 k.2).of id k.3) k.0 (ap (package_made g) k.2 ∙ ap (package_if g) k.3)
-      where
-        go : (o : Option Packaged) → package_of g id ≡ o → IsSome o → (k : ℕ) → instantiated g k ≡ package_of g id → IsDependency (dependency_of g id)
-        go None e s k made = absurd (true≢false (sym s))
-        go (Some p) e s k made = subst IsDependency (sym (name_is g id p e)) (names p (k, made ∙ e))

@@ -3,7 +3,7 @@ use Rattle.std.specs.Prelude.{if◌then◌else◌, is_some}
 use Rattle.std.specs.Cmp.Lexicographic.{bytes_decides}
 use Rattle.std.proofs.lemmas.Option.{same_Some}
 use Rattle.std.proofs.lemmas.List.{map-append}
-use Rattle.std.proofs.Common.{◌≡◌, ℕ, Bool, true, false, true≢false, ◌||◌, List, [], ◌∷◌, ◌++◌, map, Option, Some, None, IsSome, is_none, inl, inr, refl, sym, ap, subst, ◌∙◌}
+use Rattle.std.proofs.Common.{◌≡◌, ℕ, Bool, true, false, true≢false, ◌||◌, List, [], ◌∷◌, ◌++◌, append_assoc, codes, map, Option, Some, None, IsSome, is_none, inl, inr, refl, sym, ap, subst, ◌∙◌}
 use Rattle.wac_types_base.specs.declared.item.ItemKind.{ItemKind}
 use Rattle.wac_types_base.specs.Record.{Collection}
 use Rattle.wac_types_base.specs.Entries.{Name, AreDistinct, names_of, value_at}
@@ -11,21 +11,19 @@ use Rattle.wac_types_base.specs.Graph.{Among}
 use Rattle.wac_types_base.specs.Stated.{stated_in, stated_of}
 use Rattle.wac_types_base.specs.Tree.{Tree, tree}
 use Rattle.wac_types_base.proofs.Adding.{Among-right}
-use Rattle.wac_types_base.proofs.Lists.{among_mapped, value_named}
+use Rattle.wac_types_base.proofs.Lists.{among_mapped, value_append, value_behind, value_named}
 use Rattle.wac_types_fit.specs.Trees.{tree_in}
 use Rattle.wac_types_names.specs.Packaged.{Packaged}
 use Rattle.wac_types_names.specs.Keys.{package_key}
-use Rattle.wac_names.specs.ComponentNames.{IsDependency}
 use Rattle.wac_graph_bytes.specs.declared.entry.Entry.{Entry as CodeEntry}
 use Rattle.wac_graph_bytes.specs.Typing.{Worlds, same_name}
 use Rattle.wac_graph_bytes.specs.Wirings.{Tag, OfDependency, Source}
-use Rattle.wac_graph_bytes.specs.Meaning.{Listed, is_package, is_package_of, wiring_of}
+use Rattle.wac_graph_bytes.specs.Meaning.{Listed, NamesPackage, is_package, is_package_of, wiring_of}
 use Rattle.wac_graph_core.specs.declared.ids.PackageId.{PackageId}
 use Rattle.wac_graph_core.specs.Graph.{Graph, IsGraph, package_of, package_if, package_made, instantiated}
 use Rattle.wac_types_parts.proofs.Lists.{distinct-append}
-use Rattle.wac_composition.specs.Conflicts.{dependency_name}
+use Rattle.wac_composition.specs.Conflicts.{dependency_name, version_name}
 use Rattle.wac_composition.proofs.Clashing.{name_found}
-use Rattle.wac_composition.proofs.KeptFits.{value_append, value_behind}
 use Rattle.wac_composition.proofs.Lists.{mapped_among}
 use Rattle.wac_graph_asks.specs.Asked.{package_ids}
 use Rattle.wac_graph_asks.specs.Wirings.{asked_trees}
@@ -101,8 +99,8 @@ module _ (g : Graph) (sound : IsGraph g) (w : Worlds) (c : Collection) (ps : Pac
       let m = made_of g sound p k e in
       (m.0, subst (Among m.0) (sym each) (with_has g [] (package_ids g) m.0 m.1), m.2)
 
-  named : (p : Packaged) → IsInstantiated g p → IsDependency (dependency_name (package_key p))
-  named p m = let h = held p m.0 m.1 in subst IsDependency (name_is g h.0 p h.2) (can.named h.0 h.1)
+  named : (p : Packaged) → IsInstantiated g p → NamesPackage (dependency_name (package_key p))
+  named p m = (p.name ++ version_name p.version, ap (λ z. codes "unlocked-dep=<" ++ z) (sym (append_assoc p.name (version_name p.version) (codes ">"))))
 
   -- and is imported, as its world
   row_there : (p : Packaged) → IsInstantiated g p → Among (dependency_name (package_key p), tree (stated_of g.types (ItemKind.Component p.ty))) deps

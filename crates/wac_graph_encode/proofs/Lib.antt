@@ -36,3 +36,4 @@ pub mod Refusing
 pub mod Circling
 pub mod CoreRefused
 pub mod StockLaws
+pub mod RefusedInstances

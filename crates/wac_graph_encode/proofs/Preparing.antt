@@ -132,7 +132,7 @@ module _ (g : Graph) (a : Asked) (o : Outers) (h : IsPrepared g a o) where
         means_nested define = composed true define tt
 
         pub means_imported : HasNoneAlike options g → MeansImported g options bytes.items
-        means_imported alike define names = composed false define (importable g sound options ids define alike names each)
+        means_imported alike define = composed false define (importable g sound options ids define alike each)
 
       -- entries that do not fit
       module _ (fits : FitsProcessor options) (unfit : UnfitAsked {A = Vec ℕ Global} g new o definitions.items options (Err BytesError.TooLarge)) where
@@ -149,7 +149,7 @@ module _ (g : Graph) (a : Asked) (o : Outers) (h : IsPrepared g a o) where
         pub past_size : IsPastSize options g
         past_size = record {
           nested = λ define. oversized true define tt;
-          imported = λ define names alike. oversized false define (importable g sound options ids define alike names each);
+          imported = λ define alike. oversized false define (importable g sound options ids define alike each);
         }
 
     -- all is there of which the world is made

@@ -8,7 +8,7 @@ use Rattle.std.specs.Option.{option_or}
 use Rattle.wac_composition.specs.Conflicts.{Cause, Unwritable, merge_conflict, unwritable_cause}
 use Rattle.wac_graph_asks.specs.declared.faults.OuterError.{OuterError}
 use Rattle.wac_graph_asks.specs.Graphs.{composition_of}
-use Rattle.wac_graph_asks.specs.Takes.{IfConflict, conflict_in}
+use Rattle.wac_graph_asks.specs.Takes.{IfConflict, TellsConflictIn, conflict_in}
 use Rattle.wac_graph_causes.specs.declared.errors.Refusal.{Refusal}
 use Rattle.wac_graph_causes.specs.declared.errors.Unwritten.{Unwritten}
 use Rattle.wac_graph_causes.specs.Refusals.{outer_refusal, unwritten_refusal}
@@ -78,9 +78,9 @@ module _ (options : EncodeOptions) (g : Graph) where
   implicit_refused (Refusal.ValidationFailure fault) h = absurd h
   implicit_refused Refusal.Memory h = tt
 
-  pub conflict_refused : (f : OuterError) → implicit_cause g ≡ None → IfConflict f (λ cause. conflict_in g ≡ Some cause) → IsRefusedFor options g (outer_refusal f)
-  conflict_refused (OuterError.ExplicitImportConflict n first second) none h = then_conflict _ none h
-  conflict_refused (OuterError.ImportTypeMergeConflict n first second source) none h = then_conflict _ none h
+  pub conflict_refused : (f : OuterError) → implicit_cause g ≡ None → IfConflict f (λ cause source. (conflict_in g ≡ Some cause) × TellsConflictIn g source) → IsRefusedFor options g (outer_refusal f)
+  conflict_refused (OuterError.ExplicitImportConflict n first second) none h = then_conflict _ none h.1.0
+  conflict_refused (OuterError.ImportTypeMergeConflict n first second source) none h = (then_conflict _ none h.0, h.1)
   conflict_refused OuterError.Memory none h = tt
 
   -- a type that cannot be written by itself is the first of these causes

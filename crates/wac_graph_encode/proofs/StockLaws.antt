@@ -42,11 +42,11 @@ use Rattle.wac_graph_encode.specs.Stocked.{Stocks, IsWrittenAlone, Refused_is_un
 use Rattle.wac_writable.proofs.ItemLaws.{root_named, resource_kind}
 use Rattle.wac_writable.proofs.ValueLaws.{own_root, borrow_root, own_resource, borrow_resource}
 
-node_of : (o : Option Entry) → IsSome o → (e : Entry) × (o ≡ Some e)
+pub node_of : (o : Option Entry) → IsSome o → (e : Entry) × (o ≡ Some e)
 node_of (Some e) s = (e, refl)
 node_of None s = absurd (cc s)
 
-compound : (x : DefinedType) → role (defined_entry x).0 ≡ Compound
+pub compound : (x : DefinedType) → role (defined_entry x).0 ≡ Compound
 compound (DefinedType.Tuple ts) = refl
 compound (DefinedType.List t) = refl
 compound (DefinedType.FixedSizeList t n) = refl
@@ -69,19 +69,39 @@ used_alike : (h : Holder) (x y : Stated) → tree x ≡ tree y → IsUsed h x �
 used_alike h x y e u = record { name = u.name; item = u.item; taken = u.taken; kind = u.kind; same = u.same ∙ e }
 
 module _ (c : Collection) (a : IsAcyclic c) where
-  tree_is : (k : ItemKind) → tree (stated_of c k) ≡ tree_in c k
+  pub tree_is : (k : ItemKind) → tree (stated_of c k) ≡ tree_in c k
   unfolding tree_in
   tree_is k = refl
 
   -- the stated type of what is in a place is in the place
-  place_is : (k : ItemKind) (e : Entry) (j : ItemKind) → item_node c k ≡ Some e → Among (Some j) (slots_of c k) → Among (Some (stated_of c j)) (places_of (stated_of c k))
+  pub place_is : (k : ItemKind) (e : Entry) (j : ItemKind) → item_node c k ≡ Some e → Among (Some j) (slots_of c k) → Among (Some (stated_of c j)) (places_of (stated_of c k))
   place_is k e j is m =
       let there = subst (λ l. Among (Some j) l) (ap slots_in is) m in
       subst (λ l. Among (Some (stated_of c j)) l) (sym (ap places_of (stated_step c a k e is) ∙ row_places (map (option_map (stated_of c)) e.1)))
       (among_mapped (option_map (stated_of c)) e.1 (Some j) there)
 
-  place_stands : (k : ItemKind) (e : Entry) (j : ItemKind) → item_node c k ≡ Some e → Among (Some j) (slots_of c k) → Stands c j
+  pub place_stands : (k : ItemKind) (e : Entry) (j : ItemKind) → item_node c k ≡ Some e → Among (Some j) (slots_of c k) → Stands c j
   place_stands k e j is m = child_stands c a k e is j (subst (λ l. Among (Some j) l) (ap slots_in is) m)
+
+  -- the places of a function's type are those of the function
+  pub typed_place : (f : FuncTypeId) (x : Stated) → Stands c (ItemKind.Ty (TypeKind.Func f)) → Among (Some x) (places_of (stated_of c (ItemKind.Func f))) → Among (Some x) (places_of (stated_of c (ItemKind.Ty (TypeKind.Func f))))
+  unfolding item_node
+  typed_place f x st m =
+      let t = typed_node c (ItemKind.Ty (TypeKind.Func f)) (ItemKind.Func f) refl st in
+      let ts = row (map (option_map (stated_of c)) t.0.1) in
+      subst (λ y. Among (Some x) (places_of y)) (sym (stated_step c a (ItemKind.Ty (TypeKind.Func f)) (type_of t.0.0, t.0.1) t.2))
+      (subst (λ y. Among (Some x) (places_of y)) (stated_step c a (ItemKind.Func f) t.0 t.1) m)
+
+  pub value_untyped : (v : ValueType) → Stands c (ItemKind.Ty (TypeKind.Value v)) → untyped (stated_of c (ItemKind.Ty (TypeKind.Value v))) ≡ stated_of c (ItemKind.Value v)
+  unfolding item_node
+  value_untyped v st = untyped_stated c a (ItemKind.Ty (TypeKind.Value v)) (ItemKind.Value v) refl st
+
+  pub module_shape : (m : ModuleTypeId) (x : ModuleType) → Stands c (ItemKind.Module m) → slice_get c.modules m.index ≡ Some x → shape_of (stated_of c (ItemKind.Module m)) ≡ module_type x
+  unfolding item_node
+  module_shape m x st at =
+      let f = module_found c m st in
+      let same : f.value ≡ x = cc (f.at, at) in
+      ap shape_of (stated_step c a (ItemKind.Module m) (module_entry f.value) (entry_at-is module_entry c.number c.modules m.collection m.index f.value f.at f.own)) ∙ ap module_type same
 
   -- an alias, or none
   by_alias : (d : DefinedTypeId) (x : DefinedType) (P : Type 0) → x ≡ x → ((t : ValueType) → x ≡ DefinedType.Alias t → P) → (((t : ValueType) → x ≡ DefinedType.Alias t → ⊥) → P) → P
@@ -176,26 +196,6 @@ module _ (c : Collection) (a : IsAcyclic c) where
     func_hangs _ (part_dangles {k = k} {v = v} f m d) t e st =
         let x = node_of (item_node c k) st in
         (stated_of c (ItemKind.Value v), place_is k x.0 (ItemKind.Value v) x.1 m, hangs (ItemKind.Value v) d v refl (place_stands k x.0 (ItemKind.Value v) x.1 m))
-
-    -- likewise of its type
-    typed_place : (f : FuncTypeId) (x : Stated) → Stands c (ItemKind.Ty (TypeKind.Func f)) → Among (Some x) (places_of (stated_of c (ItemKind.Func f))) → Among (Some x) (places_of (stated_of c (ItemKind.Ty (TypeKind.Func f))))
-    unfolding item_node
-    typed_place f x st m =
-        let t = typed_node c (ItemKind.Ty (TypeKind.Func f)) (ItemKind.Func f) refl st in
-        let ts = row (map (option_map (stated_of c)) t.0.1) in
-        subst (λ y. Among (Some x) (places_of y)) (sym (stated_step c a (ItemKind.Ty (TypeKind.Func f)) (type_of t.0.0, t.0.1) t.2))
-        (subst (λ y. Among (Some x) (places_of y)) (stated_step c a (ItemKind.Func f) t.0 t.1) m)
-
-    value_untyped : (v : ValueType) → Stands c (ItemKind.Ty (TypeKind.Value v)) → untyped (stated_of c (ItemKind.Ty (TypeKind.Value v))) ≡ stated_of c (ItemKind.Value v)
-    unfolding item_node
-    value_untyped v st = untyped_stated c a (ItemKind.Ty (TypeKind.Value v)) (ItemKind.Value v) refl st
-
-    module_shape : (m : ModuleTypeId) (x : ModuleType) → Stands c (ItemKind.Module m) → slice_get c.modules m.index ≡ Some x → shape_of (stated_of c (ItemKind.Module m)) ≡ module_type x
-    unfolding item_node
-    module_shape m x st at =
-        let f = module_found c m st in
-        let same : f.value ≡ x = cc (f.at, at) in
-        ap shape_of (stated_step c a (ItemKind.Module m) (module_entry f.value) (entry_at-is module_entry c.number c.modules m.collection m.index f.value f.at f.own)) ∙ ap module_type same
 
     -- a resource that is no fresh one and that no use gives
     resource_refused : (outer : Bool) (n : Name) (q : ResourceId) → Stands c (ItemKind.Ty (TypeKind.Resource q)) → IsUnnamed c s.resources q → is_fresh (n, stated_of c (ItemKind.Ty (TypeKind.Resource q))) ≡ false

@@ -10,7 +10,6 @@ use Rattle.wac_types_base.specs.Stated.{stated_of}
 use Rattle.wac_types_base.specs.Tree.{Tree, tree, tree_of}
 use Rattle.wac_types_names.specs.Packaged.{Packaged}
 use Rattle.wac_types_names.specs.Keys.{package_key}
-use Rattle.wac_names.specs.ComponentNames.{IsDependency}
 use Rattle.wac_graph_bytes.specs.declared.entry.Entry.{Entry as CodeEntry}
 use Rattle.wac_graph_bytes.specs.Entries.{Entry, Nested, Section, entries_of}
 use Rattle.wac_graph_bytes.specs.Views.{view}
@@ -63,10 +62,6 @@ pub record AreTrueOf (define : Bool) (g : Graph) (worlds : Worlds) : Type 0 wher
 
 abbrev pub IsInstantiated : Graph → Packaged → Type 0
 IsInstantiated g p = (k : ℕ) × (instantiated g k ≡ Some p)
-
--- each of these packages has a name under which it can be imported
-abbrev pub HaveDependencyNames : Graph → Type 0
-HaveDependencyNames g = (p : Packaged) → IsInstantiated g p → IsDependency (dependency_name (package_key p))
 
 -- ---- nested components
 

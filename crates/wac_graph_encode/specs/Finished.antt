@@ -30,7 +30,7 @@ use Rattle.wac_graph_encode.specs.declared.instances.Wired.{Wired}
 use Rattle.wac_graph_encode.specs.declared.root.Writing.{Writing}
 use Rattle.wac_graph_encode.specs.Standing.{IsFinished}
 use Rattle.wac_graph_encode.specs.Defining.{AreToWrite}
-use Rattle.wac_graph_encode.specs.Encoding.{nested_in, HasUnfit, HaveDependencyNames, MeansGraph, StateGraph, IsComposed}
+use Rattle.wac_graph_encode.specs.Encoding.{nested_in, HasUnfit, MeansGraph, StateGraph, IsComposed}
 use Rattle.wac_graph_encode.specs.Formed.{AreCopied}
 use Rattle.wac_graph_encode.specs.Refused.{FitsProcessor, HasNoneAlike, HasNoneFound, IsRefusedFor, waiting_cause}
 use Rattle.wac_graph_encode.specs.Worlds.{AreAllDefined, IsToHandOut}
@@ -143,7 +143,7 @@ MeansNested g options bytes = options.define_components ≡ true → IsComposed 
 
 -- where their names are those of dependencies
 abbrev pub MeansImported : Graph → EncodeOptions → List ℕ → Type 0
-MeansImported g options bytes = options.define_components ≡ false → HaveDependencyNames g → IsComposed false g bytes
+MeansImported g options bytes = options.define_components ≡ false → IsComposed false g bytes
 
 -- once it is prepared
 abbrev pub PreparedMeans : Graph → Asked → Outers → EncodeOptions → List ℕ → Type 0

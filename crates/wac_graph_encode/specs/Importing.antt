@@ -9,7 +9,6 @@ use Rattle.wac_types_base.specs.Graph.{Among}
 use Rattle.wac_types_base.specs.Collection.{Stands}
 use Rattle.wac_types_base.specs.Tree.{Tree}
 use Rattle.wac_types_fit.specs.Trees.{tree_in}
-use Rattle.wac_names.specs.ComponentNames.{IsDependency}
 use Rattle.wac_graph_bytes.specs.declared.value.Sort.TheVariants as sort
 use Rattle.wac_graph_bytes.specs.Typing.{Worlds, Item, Inside}
 use Rattle.wac_graph_core.specs.declared.ids.PackageId.{PackageId}
@@ -44,9 +43,8 @@ abbrev pub with_packages : (define : Bool) → Graph → Collection → Packages
 with_packages true g c ps imports = imports
 with_packages false g c ps imports = imports ++ map (dependency_import g c) ps
 
--- packages can be imported: they have names of dependencies, no two the same, and no outer import has one of them
+-- packages can be imported: no two are imported under the same name, and no outer import has one of those names
 pub record AreImportable (g : Graph) (ids : List PackageId) : Type 0 where
-  pub named : (id : PackageId) → Among id ids → IsDependency (dependency_of g id)
   pub once : AreDistinct (map (dependency_of g) ids)
   pub apart : (id : PackageId) → Among id ids → asked_trees g (dependency_of g id) ≡ None
 

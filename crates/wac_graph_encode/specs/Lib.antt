@@ -13,3 +13,4 @@ pub mod Refused
 pub mod Worlds
 pub mod Importing
 pub mod Stocked
+pub mod RefusedInstances

@@ -7,7 +7,7 @@ use Rattle.wac_composition.specs.Asks.{asks_of}
 use Rattle.wac_composition.specs.Classes.{spelling}
 use Rattle.wac_composition.specs.Conflicts.{Cause, ImplicitImport, ExplicitImport, ImportTypes, Unwritable, circle_cause, first_cause}
 use Rattle.wac_graph_asks.specs.Graphs.{composition_of}
-use Rattle.wac_graph_asks.specs.Takes.{conflict_in}
+use Rattle.wac_graph_asks.specs.Takes.{conflict_in, TellsConflictIn}
 use Rattle.wac_graph_causes.specs.declared.errors.EncodeError.{EncodeError}
 use Rattle.wac_graph_causes.specs.declared.errors.Refusal.{Refusal}
 use Rattle.wac_graph_causes.specs.Refusals.{refusal_shown}
@@ -15,7 +15,7 @@ use Rattle.wac_graph_causes.specs.Implicit.{IsKeyOf, implicit_cause}
 use Rattle.wac_graph_causes.specs.Alike.{names_told, alike_cause}
 use Rattle.wac_graph_causes.specs.Unwritable.{outers_of, unwritten_cause}
 use Rattle.wac_graph_encode.specs.declared.options.EncodeOptions.{EncodeOptions}
-use Rattle.wac_graph_encode.specs.Encoding.{HaveDependencyNames, IsOversized}
+use Rattle.wac_graph_encode.specs.Encoding.{IsOversized}
 
 module _ (options : EncodeOptions) (g : Graph) where
   -- the first cause that stands against the composition
@@ -63,19 +63,19 @@ FitsProcessor options = producers_if_fit (option_map processor_view options.proc
 -- the entries of the component do not fit
 pub record IsPastSize (options : EncodeOptions) (g : Graph) : Type 0 where
   pub nested : options.define_components ≡ true → IsOversized true g
-  pub imported : options.define_components ≡ false → HaveDependencyNames g → HasNoneAlike options g → IsOversized false g
+  pub imported : options.define_components ≡ false → HasNoneAlike options g → IsOversized false g
 
 -- ---- refusals
 
--- The error tells the first cause; where none stands, that the component passes 32 bits, or the first names that are alike. Of
--- want of memory nothing is said.
+-- The error tells the first cause, and by its source how imports are apart that do not merge; where none stands, that the
+-- component passes 32 bits, or the first names that are alike. Of want of memory nothing is said.
 abbrev pub IsErrorFor : EncodeOptions → Graph → EncodeError → Type 0
 IsErrorFor options g (EncodeError.ImplicitImportConflict import instantiation key n) =
     (cause_in options g ≡ Some (ImplicitImport (string_bytes n) import instantiation)) × IsKeyOf g instantiation key
 IsErrorFor options g (EncodeError.ExplicitImportConflict n first second) =
     cause_in options g ≡ Some (ExplicitImport (string_bytes n) first second)
 IsErrorFor options g (EncodeError.ImportTypeMergeConflict n first second source) =
-    cause_in options g ≡ Some (ImportTypes (string_bytes n) first second)
+    (cause_in options g ≡ Some (ImportTypes (string_bytes n) first second)) × TellsConflictIn g source
 IsErrorFor options g (EncodeError.TypeCannotBeWritten n) = cause_in options g ≡ Some (Unwritable (string_bytes n))
 IsErrorFor options g EncodeError.TooLarge = HasNoCause options g × (HasLargeProcessor options ⊎ IsPastSize options g)
 IsErrorFor options g (EncodeError.ValidationFailure fault) =

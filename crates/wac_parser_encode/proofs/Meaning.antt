@@ -19,7 +19,6 @@ use Rattle.wac_graph_bytes.proofs.SameWirings.{same_trans}
 use Rattle.wac_graph_core.specs.declared.ids.PackageId.{PackageId}
 use Rattle.wac_graph_core.specs.Graph.{Graph, IsGraph, PackageStands, instantiated, package_of}
 use Rattle.wac_graph_core.proofs.WiringLaws.{has_wiring}
-use Rattle.wac_names.specs.ComponentNames.{IsDependency}
 use Rattle.wac_composition.specs.Asks.{asks_of}
 use Rattle.wac_composition.specs.Conflicts.{dependency_name}
 use Rattle.wac_composition.specs.Wired.{composed_wiring}
@@ -46,7 +45,7 @@ use Rattle.wac_parser_ascribed.specs.Tied.{IsAscribed, IsTagged, handed_tag, asc
 use Rattle.wac_parser_ascribed.proofs.Wired.{ascribed}
 use Rattle.wac_parser_encode.specs.Processing.{IsProcessed}
 use Rattle.wac_parser_encode.specs.Sizes.{StateIn, StateImporting}
-use Rattle.wac_parser_encode.specs.Meaning.{AreTrueAs, AreTrueOf, HasResolvedWorld, ImportsAscribed, ImportsResolved, MeansAscribed, MeansResolved, imported_tag, CanBeImported}
+use Rattle.wac_parser_encode.specs.Meaning.{AreTrueAs, AreTrueOf, HasResolvedWorld, ImportsAscribed, ImportsResolved, MeansAscribed, MeansResolved, imported_tag}
 
 module _ (g : Graph) (sound : IsGraph g) (acyclic : IsAcyclic g.types) (places : Places) (s : State) (b : IsBuilt g places s) where
   abbrev ms : List ℕ
@@ -99,11 +98,6 @@ module _ (g : Graph) (sound : IsGraph g) (acyclic : IsAcyclic g.types) (places :
   true_of_imports : (worlds : Worlds) → AreTrueAs imported_tag s worlds → graph.AreTrueOf false g worlds
   true_of_imports worlds h = record { each = λ k p e. true_at g sound acyclic places s b imported_tag worlds h k p e }
 
-  pub names_of_graph : CanBeImported s → graph.HaveDependencyNames g
-  names_of_graph h p made =
-      let m = said_at g places s b made.0 p made.1 in
-      subst (λ k. IsDependency (dependency_name k)) (sym m.is.key ∙ ap package_key m.of) (h m.made m.among)
-
   tagged : (W : Wiring ℕ) → IsGraphWiring g W → IsTagged imported_tag g W (graph.with_dependencies g W)
   tagged W is = record {
     outers = λ n. refl;
@@ -124,9 +118,9 @@ module _ (g : Graph) (sound : IsGraph g) (acyclic : IsAcyclic g.types) (places :
   same_imported tied meant imports m w =
       same_trans (composed_wiring imported_tag (composition s)) (graph.with_dependencies g w.0) meant (tied.tagged imported_tag w.0 (graph.with_dependencies g w.0) w.1 (tagged w.0 w.1)) (m.same w.0 w.1)
 
-  imports_said : IsAscribed g places s → (bytes : List ℕ) → (graph.HaveDependencyNames g → graph.IsComposed false g bytes) → ImportsAscribed s bytes
-  imports_said tied bytes h names worlds are =
-      let m = (h (names_of_graph names)).means worlds (true_of_imports worlds are) in
+  imports_said : IsAscribed g places s → (bytes : List ℕ) → graph.IsComposed false g bytes → ImportsAscribed s bytes
+  imports_said tied bytes h worlds are =
+      let m = h.means worlds (true_of_imports worlds are) in
       let imports = m.means.states.last.listed.imports in
       record {
         meant = m.meant;

@@ -25,7 +25,7 @@ use Rattle.wac_graph_encode.specs.declared.options.EncodeOptions.{EncodeOptions}
 use Rattle.wac_graph_encode.specs.Refused as graph
 use Rattle.wac_graph_encode.specs.Refused.{HasLargeProcessor, HasNoCause as HasNone, IsErrorFor, IsFree}
 use Rattle.wac_parser_refusals.specs.declared.error.Error.{Error}
-use Rattle.wac_parser_refusals.specs.Causes.{Fault}
+use Rattle.wac_parser_refusals.specs.Causes.{Fault, plainly}
 use Rattle.wac_parser_refusals.specs.Views.{cause_of}
 use Rattle.wac_parser_resolve.specs.Ascribed.{Asker, by_import, by_instance, by_definition, asker_key, asker_span, cause_said, composition, merge_span, span_or_none}
 use Rattle.wac_parser_resolve.specs.Ascribing.{State}
@@ -37,7 +37,7 @@ use Rattle.wac_parser_ascribed.proofs.Wired.{ascribed}
 use Rattle.wac_parser_resolve.specs.InDocuments.{IsBuilt}
 use Rattle.wac_parser_encode.specs.Processing.{HasProcessor, IsProcessed}
 use Rattle.wac_parser_encode.specs.Sizes.{IsPastSize}
-use Rattle.wac_parser_encode.proofs.Meaning.{entries_said, imports_stated, names_of_graph}
+use Rattle.wac_parser_encode.proofs.Meaning.{entries_said, imports_stated}
 use Rattle.wac_parser_encode.specs.Refused.{CanBeEncoded, HasNoFirst, IsFirst, IsOfSize, AreFirstAlike, TellsCause, RefusesResolved, TellsFirst, TellsAnywhere, fault_in}
 
 -- ---- places of askers
@@ -71,8 +71,8 @@ past_size g options sound acyclic at s b tied past = record {
       let o = past.nested define in
       record { entries = o.entries; state = entries_said g sound acyclic at s b tied o.entries o.state; unfit = o.unfit }
       );
-  imported = λ define names alike. (
-      let o = past.imported define (names_of_graph g sound acyclic at s b names) (alike_too define alike) in
+  imported = λ define alike. (
+      let o = past.imported define (alike_too define alike) in
       record { entries = o.entries; state = imports_stated g sound acyclic at s b tied o.entries o.state; unfit = o.unfit }
       );
 }
@@ -99,29 +99,29 @@ module _ (options : EncodeOptions) (g : Graph) (at : Places) (s : State) (tied :
   said x e = ap (option_map cause_said) (first_is x e)
 
   implicit_told : (n : List ℕ) (import filled : ℕ) (key : PackageKey) → first_cause options.define_components (composition_of g) ≡ Some (cause.ImplicitImport n import filled) → IsKeyOf g filled key
-      → IsFirst options.define_components s (record { fault = Fault.ImportConflict n (owned_key key) (asker_place at filled); span = Some (import_place at import) })
+      → IsFirst options.define_components s (plainly (Fault.ImportConflict n (owned_key key) (asker_place at filled)) (Some (import_place at import)))
   implicit_told n import filled key e of =
       let a = asked_so (cause.ImplicitImport n import filled) e in
       let place = import_told at import (tied.asker import) (tied.placed import) a.0 in
       let new = new_told at filled (tied.asker filled) (tied.placed filled) a.1 in
       let same : asker_key (tied.asker filled) ≡ owned_key key = tied.keys filled of.of of.is ∙ sym of.key_is in
-      said (cause.ImplicitImport n import filled) e ∙ (λ j. Some (record { fault = Fault.ImportConflict n (same j) (span_or_none (new j)); span = place j }))
+      said (cause.ImplicitImport n import filled) e ∙ (λ j. Some (plainly (Fault.ImportConflict n (same j) (span_or_none (new j))) (place j)))
 
   explicit_told : (n : List ℕ) (first second : ℕ) → first_cause options.define_components (composition_of g) ≡ Some (cause.ExplicitImport n first second)
-      → IsFirst options.define_components s (record { fault = Fault.ExplicitImportConflict n (import_place at first); span = Some (import_place at second) })
+      → IsFirst options.define_components s (plainly (Fault.ExplicitImportConflict n (import_place at first)) (Some (import_place at second)))
   explicit_told n first second e =
       let a = asked_so (cause.ExplicitImport n first second) e in
       let one = import_told at first (tied.asker first) (tied.placed first) a.0 in
       let two = import_told at second (tied.asker second) (tied.placed second) a.1 in
-      said (cause.ExplicitImport n first second) e ∙ (λ j. Some (record { fault = Fault.ExplicitImportConflict n (span_or_none (one j)); span = two j }))
+      said (cause.ExplicitImport n first second) e ∙ (λ j. Some (plainly (Fault.ExplicitImportConflict n (span_or_none (one j))) (two j)))
 
   merge_failed : (n : List ℕ) (first second : ℕ) → first_cause options.define_components (composition_of g) ≡ Some (cause.ImportTypes n first second)
-      → IsFirst options.define_components s (record { fault = Fault.InstantiationArgMergeFailure n (asker_place at first); span = Some (asker_place at second) })
+      → IsFirst options.define_components s (plainly (Fault.InstantiationArgMergeFailure n (asker_place at first)) (Some (asker_place at second)))
   merge_failed n first second e =
       let a = asked_so (cause.ImportTypes n first second) e in
       let one = merge_told at first (tied.asker first) (tied.placed first) a.0 in
       let two = merge_told at second (tied.asker second) (tied.placed second) a.1 in
-      said (cause.ImportTypes n first second) e ∙ (λ j. Some (record { fault = Fault.InstantiationArgMergeFailure n (span_or_none (one j)); span = two j }))
+      said (cause.ImportTypes n first second) e ∙ (λ j. Some (plainly (Fault.InstantiationArgMergeFailure n (span_or_none (one j))) (two j)))
 
   alike_told : (x : cause.Cause ℕ) → name_cause options.define_components options.validate (composition_of g) ≡ Some x → AreFirstAlike options s (cause_said (cause_renamed tied.asker x))
   alike_told x e = ap (option_map cause_said) (tied.names options.define_components options.validate ∙ ap (option_map (cause_renamed tied.asker)) e)
@@ -129,14 +129,14 @@ module _ (options : EncodeOptions) (g : Graph) (at : Places) (s : State) (tied :
   none_told : HasNone options g → HasNoFirst options.define_components s
   none_told e = tied.cause options.define_components ∙ ap (option_map (cause_renamed tied.asker)) e
 
-  too_large_told : (HasLargeProcessor options ⊎ graph.IsPastSize options g) → IsOfSize options s (record { fault = Fault.TooLarge; span = None })
+  too_large_told : (HasLargeProcessor options ⊎ graph.IsPastSize options g) → IsOfSize options s (plainly Fault.TooLarge None)
   too_large_told (inl large) = (inl large, refl)
   too_large_told (inr of) = (inr (past of), refl)
 
   told : (e : EncodeError) → IsErrorFor options g e → TellsCause options s (fault_in at e)
   told (EncodeError.ImplicitImportConflict import filled key n) h = implicit_told (string_bytes n) import filled key h.0 h.1
   told (EncodeError.ExplicitImportConflict n first second) h = explicit_told (string_bytes n) first second h
-  told (EncodeError.ImportTypeMergeConflict n first second source) h = merge_failed (string_bytes n) first second h
+  told (EncodeError.ImportTypeMergeConflict n first second source) h = merge_failed (string_bytes n) first second h.0
   told (EncodeError.TypeCannotBeWritten n) h = said (cause.Unwritable (string_bytes n)) h
   told EncodeError.TooLarge h = (none_told h.0, too_large_told h.1)
   told (EncodeError.ValidationFailure (ValidationFault.ImportNames m n)) h = (none_told h.0, alike_told (cause.ImportNames (string_bytes m) (string_bytes n)) h.1)
@@ -173,7 +173,7 @@ processed g old new e is h = by e (subst (λ (b : Bool). IsErrorFor (record new 
     by (EncodeError.ImportTypeMergeConflict n first second source) h = h
     by (EncodeError.TypeCannotBeWritten n) h = h
     by EncodeError.TooLarge (none, inl large) = (none, inl (large_processor old new is large))
-    by EncodeError.TooLarge (none, inr past) = (none, inr (record { nested = past.nested; imported = λ define names alike. past.imported define names ((λ j. name_cause old.define_components (is.validate j) (composition_of g)) ∙ alike) }))
+    by EncodeError.TooLarge (none, inr past) = (none, inr (record { nested = past.nested; imported = λ define alike. past.imported define ((λ j. name_cause old.define_components (is.validate j) (composition_of g)) ∙ alike) }))
     by (EncodeError.ValidationFailure fault) h = (h.0, (λ j. name_cause old.define_components (sym is.validate j) (composition_of g)) ∙ h.1)
     by (EncodeError.GraphContainsCycle node) h = absurd h
     by EncodeError.Memory h = tt

@@ -7,7 +7,6 @@ use Rattle.wac_types_base.specs.Graph.{Among}
 use Rattle.wac_types_base.specs.Stated.{Stated, instance_type}
 use Rattle.wac_types_base.specs.Tree.{tree}
 use Rattle.wac_types_names.specs.Keys.{Key}
-use Rattle.wac_names.specs.ComponentNames.{IsDependency}
 use Rattle.wac_graph_bytes.specs.Meaning.{Means}
 use Rattle.wac_graph_bytes.specs.Typing.{Worlds}
 use Rattle.wac_graph_bytes.specs.Wirings.{Tag, OfDependency, Wiring, Same}
@@ -55,10 +54,6 @@ MeansResolved g options bytes = options.define_components ≡ true
 abbrev pub imported_tag : Key → Tag
 imported_tag k = OfDependency (dependency_name k)
 
--- each package that is instantiated has a name under which it can be imported
-abbrev pub CanBeImported : State → Type 0
-CanBeImported s = (m : Made) → Among m s.made → IsDependency (dependency_name m.key)
-
 -- In these worlds the bytes mean the wiring that is ascribed, and import each package under that name, as a component of its
 -- stated world.
 pub record ImportsIn (s : State) (worlds : Worlds) (bytes : List ℕ) : Type 0 where
@@ -69,7 +64,7 @@ pub record ImportsIn (s : State) (worlds : Worlds) (bytes : List ℕ) : Type 0 w
 
 abbrev pub ImportsAscribed : State → List ℕ → Type 0
 ImportsAscribed s bytes =
-    CanBeImported s → (worlds : Worlds) → AreTrueAs imported_tag s worlds → ImportsIn s worlds bytes
+    (worlds : Worlds) → AreTrueAs imported_tag s worlds → ImportsIn s worlds bytes
 
 -- Where packages are imported, so it is of each document that the graph is built from.
 unfoldable pub ImportsResolved : Graph → EncodeOptions → List ℕ → Type 0

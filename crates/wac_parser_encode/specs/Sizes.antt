@@ -13,7 +13,7 @@ use Rattle.wac_graph_encode.specs.Encoding.{HasUnfit}
 use Rattle.wac_parser_ascribed.specs.Tied.{ascribed_wiring}
 use Rattle.wac_parser_resolve.specs.Ascribed.{composition}
 use Rattle.wac_parser_resolve.specs.Ascribing.{Made, State}
-use Rattle.wac_parser_encode.specs.Meaning.{AreTrueAs, AreTrueOf, CanBeImported, imported_tag}
+use Rattle.wac_parser_encode.specs.Meaning.{AreTrueAs, AreTrueOf, imported_tag}
 
 -- In these worlds the entries state the wiring that is ascribed, but for the numbers of instances.
 pub record StateIn (s : State) (worlds : Worlds) (entries : List Entry) : Type 0 where
@@ -44,5 +44,5 @@ pub record IsOversizedImporting (s : State) : Type 0 where
 -- the entries of its component do not fit
 pub record IsPastSize (options : EncodeOptions) (s : State) : Type 0 where
   pub nested : options.define_components ≡ true → IsOversized s
-  pub imported : options.define_components ≡ false → CanBeImported s
+  pub imported : options.define_components ≡ false
       → name_cause false options.validate (composition s) ≡ None → IsOversizedImporting s

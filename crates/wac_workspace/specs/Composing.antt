@@ -9,7 +9,7 @@ use Rattle.wac_types_base.specs.Collection.{Stands}
 use Rattle.wac_types_names.specs.Keys.{Key}
 use Rattle.wac_graph_core.specs.Graph.{Graph}
 use Rattle.wac_graph_encode.specs.declared.options.EncodeOptions.{EncodeOptions}
-use Rattle.wac_graph_encode.specs.Encoding.{HaveDependencyNames, IsComposed as IsComponentOf}
+use Rattle.wac_graph_encode.specs.Encoding.{IsComposed as IsComponentOf}
 use Rattle.wac_parser_tree.specs.Trees.{Document}
 use Rattle.wac_parser_grammar.specs.Documents.{document}
 use Rattle.wac_parser_grammar.specs.Reads.{read_source}
@@ -107,7 +107,7 @@ pub record IsImporting (q : Resolves) (bytes : List ℕ) : Type 0 where
   pub ascribed : AreImportingBytes q bytes
   pub graph : Graph
   pub holds : IsGraphOf q graph
-  pub component : HaveDependencyNames graph → IsComponentOf false graph bytes
+  pub component : IsComponentOf false graph bytes
 
 abbrev pub ImportsSaid : EncodeOptions → Resolves → List ℕ → Type 0
 ImportsSaid options q bytes = options.define_components ≡ false → IsImporting q bytes

@@ -19,4 +19,4 @@ returns-clause-known c w ss u knows reads is =
     let type : Stands types (ItemKind.Ty (TypeKind.Value own)) = c.if-not-has-2.ensures.0 refl in
     let same = same_tree types a (ItemKind.Value last) (ItemKind.Value own) r.stands stands r.tree in
     let value = defined_index types a w ss c.args.id last c.args.index u r.stands type (end_no_alias types a r.resolved) same reads is in
-    c.put.ensures w ss types (c.in_ok-put_end.ensures.known w ss types knows (value ∙ ap Some (sym same))) value
+    c.put.ensures.known w ss types (c.in_ok-put_end.ensures.known w ss types knows (value ∙ ap Some (sym same))) value

@@ -1,0 +1,417 @@
+-- Instance types that the writer refuses where all that they use stands around.
+use Rattle.std.proofs.Common.{◌≡◌, ◌⊎◌, ◌+◌, ◌-◌, ◌^◌, ℕ, zero, suc, Bool, true, false, List, [], ◌∷◌, ◌++◌, map, Option, Some, None, IsSome, inl, inr, refl, sym, ap, ◌∙◌, subst, slice_get, unwrap_or, arith}
+use Rattle.std.specs.Prelude.{◌&&◌, ◌||◌, bytes_eq, filter, option_map, is_none}
+use Rattle.std.specs.List.{list_any}
+use Rattle.std.proofs.lemmas.Slice.Eq.{bytes_eq-Decides}
+use Rattle.std.proofs.lemmas.Option.{none-some, same_Some}
+use Rattle.wac_types_base.specs.declared.ids.InterfaceId.{InterfaceId}
+use Rattle.wac_types_base.specs.declared.ids.WorldId.{WorldId}
+use Rattle.wac_types_base.specs.declared.ids.DefinedTypeId.{DefinedTypeId}
+use Rattle.wac_types_base.specs.declared.ids.FuncTypeId.{FuncTypeId}
+use Rattle.wac_types_base.specs.declared.ids.ModuleTypeId.{ModuleTypeId}
+use Rattle.wac_types_base.specs.declared.ids.ResourceId.{ResourceId}
+use Rattle.wac_types_base.specs.declared.core_types.ModuleType.{ModuleType}
+use Rattle.wac_types_base.specs.declared.item.ValueType.{ValueType}
+use Rattle.wac_types_base.specs.declared.item.«Type».{«Type» as TypeKind}
+use Rattle.wac_types_base.specs.declared.item.ItemKind.{ItemKind}
+use Rattle.wac_types_base.specs.declared.defined.UsedType.{UsedType}
+use Rattle.wac_types_base.specs.declared.defined.ResourceAlias.{ResourceAlias}
+use Rattle.wac_types_base.specs.Record.{Collection}
+use Rattle.wac_types_base.specs.Entries.{Name, value_at}
+use Rattle.wac_types_base.specs.Graph.{Among}
+use Rattle.wac_types_base.specs.Collection.{Stands, IsAcyclic, item_node, slots_of, resource, resource_entry_at, defined_entry, own_of, borrow_of}
+use Rattle.wac_types_base.specs.Stated.{Stated, IsResource, IsValueType, shape_of, places_of, untyped, kind_of, stated_of, uses_of, exports_of, root_name}
+use Rattle.wac_types_base.specs.Tree.{Tree, tree, type_item, rigid, end}
+use Rattle.wac_types_base.proofs.Lists.{among_mapped, among_split, among_filtered, from_filtered}
+use Rattle.wac_types_base.proofs.Standing.{resource_found, defined_found, typed_value_stands}
+use Rattle.wac_types_base.proofs.Stating.{stated_uses}
+use Rattle.wac_types_base.proofs.Slots.{slots_own, slots_borrow, slots_primitive, stands_typed_value, stands_typed_func, stands_typed_interface}
+use Rattle.wac_types_base.proofs.Telling.{item_kind, kind_stated, stated_step, own_node, borrow_node, defined_node, resource_node}
+use Rattle.wac_types_fit.specs.Trees.{tree_in}
+use Rattle.wac_types_fit.proofs.Items.{value_at-among}
+use Rattle.wac_types_fit.proofs.ItemKinds.{kind_is, tree_kind}
+use Rattle.wac_types_fit.proofs.Unfolded.{type_value}
+use Rattle.wac_types_parts.specs.Parts.{IsFresh, IsOfInterface, IsOfWorld, IsUsedKind, IsUseAt, used_if, interface_in}
+use Rattle.wac_types_base.specs.Parts.{identifier_in}
+use Rattle.wac_types_parts.specs.Parts.{exports_of as exports_in, uses_of as uses_in}
+use Rattle.wac_types_parts.proofs.PartsStated.{uses_are, exports_are, identifier_is}
+use Rattle.wac_composition.specs.Writable.{Holder, is_fresh, is_resource, root_of, taken, holder, some_unnamed}
+use Rattle.wac_composition.specs.NotWritten.{IsGiven, IsUsed, HasRoot, Compound, role, Dangles, handle, part, CannotBeWritten, a_value, core_items, module_as_type, renamed, an_alias, a_function, a_function_type, a_value_type, an_instance, an_interface, ItemsFail, unnamed, an_item}
+use Rattle.wac_composition.proofs.Lists.{mapped_among}
+use Rattle.wac_writable.specs.Unnamed.{is_unnamed, uses_unnamed}
+use Rattle.wac_writable.proofs.UnnamedLaws.{unnamed_use, used_by}
+use Rattle.wac_writable.proofs.ItemLaws.{root_named, resource_kind, other_kind}
+use Rattle.wac_writable.proofs.HolderLaws.{export_item_stands, takes, used_from}
+use Rattle.wac_writable.proofs.TypesLaws.{exports_stand}
+use Rattle.wac_writable.proofs.InterfaceLaws.{has_parts}
+use Rattle.wac_writable.proofs.ValueLaws.{own_root, borrow_root, own_resource, borrow_resource}
+use Rattle.wac_graph_scopes.specs.declared.fault.WriteError.{WriteError}
+use Rattle.wac_graph_scopes.specs.Used as table
+use Rattle.wac_graph_scopes.specs.Stock.{IsTaken, IsOwn, IsStocked}
+use Rattle.wac_graph_scopes.specs.InstanceRefusals.{InstanceRefused, too_deep, use_refused, export_refused, inner_refused, UseRefused, IsMissing, IsMissingValue, DanglesBeside, own_beside, borrow_beside, part_beside, ExportRefused}
+use Rattle.wac_graph_scopes.proofs.UsedLaws as used
+use Rattle.wac_graph_scopes.proofs.LackingLaws.{no_value_in}
+use Rattle.wac_graph_encode.proofs.CoreRefused.{module_false}
+use Rattle.wac_graph_encode.proofs.StockLaws.{node_of, compound, tree_is, place_is, place_stands, typed_place, value_untyped, module_shape}
+use Rattle.wac_graph_encode.specs.RefusedInstances.{IsWithin, itself, exported, HasNoWorld, AllStandAround, Nests, ends, goes, Refused_instance_is_unwritable}
+
+-- ---- kinds
+
+used_if_is : (o : Option ItemKind) (k : ItemKind) → used_if o ≡ Some k → IsUsedKind k
+used_if_is None k e = absurd (none-some _ e)
+used_if_is (Some (ItemKind.Ty (TypeKind.Resource r))) k e = subst IsUsedKind (same_Some _ _ e) tt
+used_if_is (Some (ItemKind.Ty (TypeKind.Value r))) k e = subst IsUsedKind (same_Some _ _ e) tt
+used_if_is (Some (ItemKind.Ty (TypeKind.Func r))) k e = absurd (none-some _ e)
+used_if_is (Some (ItemKind.Ty (TypeKind.Interface r))) k e = absurd (none-some _ e)
+used_if_is (Some (ItemKind.Ty (TypeKind.World r))) k e = absurd (none-some _ e)
+used_if_is (Some (ItemKind.Ty (TypeKind.Module r))) k e = absurd (none-some _ e)
+used_if_is (Some (ItemKind.Func r)) k e = absurd (none-some _ e)
+used_if_is (Some (ItemKind.Instance r)) k e = absurd (none-some _ e)
+used_if_is (Some (ItemKind.Component r)) k e = absurd (none-some _ e)
+used_if_is (Some (ItemKind.Module r)) k e = absurd (none-some _ e)
+used_if_is (Some (ItemKind.Value r)) k e = absurd (none-some _ e)
+
+abbrev IsOfUsedKind : ItemKind → Type 0
+IsOfUsedKind k = (item_kind k ≡ IsResource) ⊎ (item_kind k ≡ IsValueType)
+
+used_kind_is : (k : ItemKind) → IsUsedKind k → IsOfUsedKind k
+used_kind_is (ItemKind.Ty (TypeKind.Resource r)) h = inl refl
+used_kind_is (ItemKind.Ty (TypeKind.Value r)) h = inr refl
+used_kind_is (ItemKind.Ty (TypeKind.Func r)) h = absurd h
+used_kind_is (ItemKind.Ty (TypeKind.Interface r)) h = absurd h
+used_kind_is (ItemKind.Ty (TypeKind.World r)) h = absurd h
+used_kind_is (ItemKind.Ty (TypeKind.Module r)) h = absurd h
+used_kind_is (ItemKind.Func r) h = absurd h
+used_kind_is (ItemKind.Instance r) h = absurd h
+used_kind_is (ItemKind.Component r) h = absurd h
+used_kind_is (ItemKind.Module r) h = absurd h
+used_kind_is (ItemKind.Value r) h = absurd h
+
+any_true : {X : Type 0} (p : X → Bool) (xs : List X) (x : X) → Among x xs → p x ≡ true → list_any p xs ≡ true
+any_true p [] x m e = absurd m
+any_true p (y ∷ ys) x (inl s) e = ap (λ b. b || list_any p ys) (ap p (sym s) ∙ e)
+any_true p (y ∷ ys) x (inr m) e = ap (λ b. p y || b) (any_true p ys x m e) ∙ or_right (p y)
+  where
+    or_right : (b : Bool) → (b || true) ≡ true
+    or_right true = refl
+    or_right false = refl
+
+slice_among : {X : Type 0} (xs : List X) (n : ℕ) (x : X) → slice_get xs n ≡ Some x → Among x xs
+slice_among [] n x e = absurd (none-some _ e)
+slice_among (y ∷ ys) zero x e = inl (sym (same_Some _ _ e))
+slice_among (y ∷ ys) (suc n) x e = inr (slice_among ys n x e)
+
+abbrev item_at : Collection → Name × UsedType → Option ItemKind
+item_at c u = used_if (value_at (exports_in c u.1.interface) (unwrap_or u.1.name u.0))
+
+abbrev named_as : Name → Stated → Name × Stated
+named_as n y = (n, y)
+
+module _ (c : Collection) (a : IsAcyclic c) (us : table.Used) (i : InterfaceId) where
+  abbrev x : Stated
+  x = stated_of c (ItemKind.Instance i)
+
+  abbrev h : Holder
+  h = holder (uses_of x) (exports_of x)
+
+  -- ---- what stands in it
+
+  -- an item that is used is one that is taken
+  pub record TakenItem (y : Stated) : Type 0 where
+    pub item : ItemKind
+    pub taken : IsTaken c us i item
+    pub is : y ≡ stated_of c item
+    pub stands : Stands c item
+    pub used : IsUsedKind item
+
+  module _ (all : (u : Name × UsedType) → Among u (uses_in c i) → (k : ItemKind) → item_at c u ≡ Some k → IsTaken c us i k) where
+    taken_by : (u : Name × UsedType) → Among u (uses_in c i) → (n : Name) (y : Stated) (o : Option ItemKind) → item_at c u ≡ o → option_map (λ k. named_as u.0 (stated_of c k)) o ≡ Some (n, y) → TakenItem y
+    taken_by u m n y None e is = absurd (none-some _ is)
+    taken_by u m n y (Some k) e is = record {
+      item = k;
+      taken = all u m k e;
+      is = sym (ap (λ (p : Name × Stated). p.1) (same_Some _ _ is));
+      stands = export_item_stands c a u.1.interface (unwrap_or u.1.name u.0) k (used_from (value_at (exports_in c u.1.interface) (unwrap_or u.1.name u.0)) k e);
+      used = used_if_is (value_at (exports_in c u.1.interface) (unwrap_or u.1.name u.0)) k e;
+    }
+
+    taken_item : (n : Name) (y : Stated) → Among (n, y) h.used → TakenItem y
+    taken_item n y m =
+        let f = from_filtered taken (uses_of x) (n, y) m in
+        let u = mapped_among (λ (u : Name × UsedType). record { name = u.0; there = u.1.name; interface = stated_of c (ItemKind.Instance u.1.interface) }) (uses_in c i) f.0 (subst (Among f.0) (uses_are c a i ∙ stated_are (uses_in c i)) f.1) in
+        taken_by u.0 u.1 n y (item_at c u.0) refl (sym (takes c a u.0) ∙ ap taken (sym u.2) ∙ f.2)
+      where
+        stated_are : (us : List (Name × UsedType)) → stated_uses c us ≡ map (λ (u : Name × UsedType). record { name = u.0; there = u.1.name; interface = stated_of c (ItemKind.Instance u.1.interface) }) us
+        stated_are [] = refl
+        stated_are (u ∷ us) = ap (λ l. record { name = u.0; there = u.1.name; interface = stated_of c (ItemKind.Instance u.1.interface) } ∷ l) (stated_are us)
+
+    resource_tree : (r : ResourceId) → Stands c (ItemKind.Ty (TypeKind.Resource r)) → tree_in c (ItemKind.Ty (TypeKind.Resource r)) ≡ rigid (resource (root_name (stated_of c (ItemKind.Ty (TypeKind.Resource r))))) end
+    resource_tree r st = let t = used.root_of c a r st in t.1 ∙ ap (λ n. rigid (resource n) end) (sym (root_named c a r t.0 st (λ z. t.1)))
+
+    -- a resource among them, by its kind
+    by_resource : (P : ItemKind → Type 0) (k : ItemKind) → is_resource (kind_of (stated_of c k)) ≡ true → ((r : ResourceId) → P (ItemKind.Ty (TypeKind.Resource r))) → P k
+    by_resource P (ItemKind.Ty (TypeKind.Resource r)) e f = f r
+    by_resource P (ItemKind.Ty (TypeKind.Func g)) e f = let no = other_kind c a (ItemKind.Ty (TypeKind.Func g)) refl in absurd (cc (no, e))
+    by_resource P (ItemKind.Ty (TypeKind.Value g)) e f = let no = other_kind c a (ItemKind.Ty (TypeKind.Value g)) refl in absurd (cc (no, e))
+    by_resource P (ItemKind.Ty (TypeKind.Interface g)) e f = let no = other_kind c a (ItemKind.Ty (TypeKind.Interface g)) refl in absurd (cc (no, e))
+    by_resource P (ItemKind.Ty (TypeKind.World g)) e f = let no = other_kind c a (ItemKind.Ty (TypeKind.World g)) refl in absurd (cc (no, e))
+    by_resource P (ItemKind.Ty (TypeKind.Module g)) e f = let no = other_kind c a (ItemKind.Ty (TypeKind.Module g)) refl in absurd (cc (no, e))
+    by_resource P (ItemKind.Func g) e f = let no = other_kind c a (ItemKind.Func g) refl in absurd (cc (no, e))
+    by_resource P (ItemKind.Instance g) e f = let no = other_kind c a (ItemKind.Instance g) refl in absurd (cc (no, e))
+    by_resource P (ItemKind.Component g) e f = let no = other_kind c a (ItemKind.Component g) refl in absurd (cc (no, e))
+    by_resource P (ItemKind.Module g) e f = let no = other_kind c a (ItemKind.Module g) refl in absurd (cc (no, e))
+    by_resource P (ItemKind.Value g) e f = let no = other_kind c a (ItemKind.Value g) refl in absurd (cc (no, e))
+
+    and_both : (p q : Bool) → (p && q) ≡ true → (p ≡ true) × (q ≡ true)
+    and_both true q e = (refl, e)
+    and_both false q e = absurd (cc e)
+
+    module _ (stands : Stands c (ItemKind.Instance i)) where
+      own_stocked : (n : Name) (k : ItemKind) → Among (n, k) (exports_in c i) → is_fresh (n, stated_of c k) ≡ true → IsStocked c us i (rigid (resource (root_name (stated_of c k))) end)
+      own_stocked n k m e =
+          let b = and_both (is_resource (kind_of (stated_of c k))) (bytes_eq n (root_name (stated_of c k))) e in
+          by_resource (λ j. Among (n, j) (exports_in c i) → bytes_eq n (root_name (stated_of c j)) ≡ true → IsStocked c us i (rigid (resource (root_name (stated_of c j))) end)) k b.0
+          (λ r there same. (
+            let st = exports_stand c a i stands (n, ItemKind.Ty (TypeKind.Resource r)) there in
+            let is = resource_tree r st in
+            let named : n ≡ root_name (stated_of c (ItemKind.Ty (TypeKind.Resource r))) = (bytes_eq-Decides n (root_name (stated_of c (ItemKind.Ty (TypeKind.Resource r))))).0 same in
+            (ItemKind.Ty (TypeKind.Resource r), inr (n, there, (st, is ∙ ap (λ m. rigid (resource m) end) (sym named))), is)
+          )) m b.1
+
+      taken_stocked : (k : ItemKind) → IsTaken c us i k → Stands c k → is_resource (kind_of (stated_of c k)) ≡ true → IsStocked c us i (rigid (resource (root_name (stated_of c k))) end)
+      taken_stocked k t st e =
+          by_resource (λ j. IsTaken c us i j → Stands c j → IsStocked c us i (rigid (resource (root_name (stated_of c j))) end)) k e
+          (λ r t st. (ItemKind.Ty (TypeKind.Resource r), inl t, resource_tree r st)) t st
+
+      -- the resource of a root name stands there
+      root_stocked : (m : Name) → Among m h.roots → IsStocked c us i (rigid (resource m) end)
+      root_stocked m there = elim (among_split m (map root_of (filter is_fresh (exports_of x))) (map root_of (filter (λ e. is_resource (kind_of e.1)) h.used)) there) [
+        | inl p ↦ (
+          let e = mapped_among root_of (filter is_fresh (exports_of x)) m p in
+          let f = among_filtered is_fresh (exports_of x) e.0 e.1 in
+          let k = mapped_among (λ (e : Name × ItemKind). (e.0, stated_of c e.1)) (exports_in c i) e.0 (subst (Among e.0) (exports_are c a i) f.0) in
+          subst (λ n. IsStocked c us i (rigid (resource n) end)) (ap root_of (sym k.2) ∙ sym e.2)
+          (own_stocked k.0.0 k.0.1 k.1 (ap is_fresh (sym k.2) ∙ f.1))
+          )
+        | inr p ↦ (
+          let e = mapped_among root_of (filter (λ e. is_resource (kind_of e.1)) h.used) m p in
+          let f = among_filtered (λ e. is_resource (kind_of e.1)) h.used e.0 e.1 in
+          let t = taken_item e.0.0 e.0.1 f.0 in
+          subst (λ n. IsStocked c us i (rigid (resource n) end)) (ap root_name (sym t.is) ∙ sym e.2)
+          (taken_stocked t.item t.taken t.stands (ap (λ y. is_resource (kind_of y)) (sym t.is) ∙ f.1))
+          )
+      ]
+
+      -- ---- what does not
+
+      rootless : (r : ResourceId) → Stands c (ItemKind.Ty (TypeKind.Resource r)) → IsMissing c us i (ItemKind.Ty (TypeKind.Resource r)) → (n : Name) → n ≡ root_name (stated_of c (ItemKind.Ty (TypeKind.Resource r))) → Among n h.roots → ⊥
+      rootless r st f n e m = f (subst (IsStocked c us i) (ap (λ z. rigid (resource z) end) e ∙ sym (resource_tree r st)) (root_stocked n m))
+
+      -- an item that a use gives stands there
+      given_stocked : (n : Name) (k : ItemKind) → IsGiven h n (stated_of c k) → (j : ItemKind) × IsTaken c us i j × Stands c j × IsUsedKind j × (tree_in c j ≡ tree_in c k)
+      given_stocked n k g =
+          let t = taken_item n g.item (value_at-among h.used n g.item g.taken) in
+          (t.item, t.taken, t.stands, t.used, sym (tree_is c a t.item) ∙ ap tree (sym t.is) ∙ g.same ∙ tree_is c a k)
+
+      not_given : (n : Name) (k : ItemKind) → IsMissing c us i k → IsGiven h n (stated_of c k) → ⊥
+      not_given n k f g = let s = given_stocked n k g in f (s.0, inl s.1, s.4)
+
+      unused : (v : ValueType) → Stands c (ItemKind.Ty (TypeKind.Value v)) → IsMissing c us i (ItemKind.Ty (TypeKind.Value v)) → IsUsed h (stated_of c (ItemKind.Value v)) → ⊥
+      unused v st f u =
+          let t = taken_item u.name u.item u.taken in
+          by t.item t.taken t.stands (ap kind_of (sym t.is) ∙ u.kind) (ap (λ y. tree (untyped y)) (sym t.is) ∙ u.same)
+        where
+          by : (k : ItemKind) → IsTaken c us i k → Stands c k → kind_of (stated_of c k) ≡ IsValueType → tree (untyped (stated_of c k)) ≡ tree (stated_of c (ItemKind.Value v)) → ⊥
+          by (ItemKind.Ty (TypeKind.Value w)) t s kind e =
+              let trees : tree_in c (ItemKind.Value w) ≡ tree_in c (ItemKind.Value v) = sym (tree_is c a (ItemKind.Value w)) ∙ ap tree (sym (value_untyped c a w s)) ∙ e ∙ tree_is c a (ItemKind.Value v) in
+              f (ItemKind.Ty (TypeKind.Value w), inl t, type_value c a w s ∙ ap type_item trees ∙ sym (type_value c a v st))
+          by (ItemKind.Ty (TypeKind.Resource r)) t s kind e = let k = kind_stated c a (ItemKind.Ty (TypeKind.Resource r)) s in absurd (cc (k, kind))
+          by (ItemKind.Ty (TypeKind.Func r)) t s kind e = let k = kind_stated c a (ItemKind.Ty (TypeKind.Func r)) s in absurd (cc (k, kind))
+          by (ItemKind.Ty (TypeKind.Interface r)) t s kind e = let k = kind_stated c a (ItemKind.Ty (TypeKind.Interface r)) s in absurd (cc (k, kind))
+          by (ItemKind.Ty (TypeKind.World r)) t s kind e = let k = kind_stated c a (ItemKind.Ty (TypeKind.World r)) s in absurd (cc (k, kind))
+          by (ItemKind.Ty (TypeKind.Module r)) t s kind e = let k = kind_stated c a (ItemKind.Ty (TypeKind.Module r)) s in absurd (cc (k, kind))
+          by (ItemKind.Func r) t s kind e = let k = kind_stated c a (ItemKind.Func r) s in absurd (cc (k, kind))
+          by (ItemKind.Instance r) t s kind e = let k = kind_stated c a (ItemKind.Instance r) s in absurd (cc (k, kind))
+          by (ItemKind.Component r) t s kind e = let k = kind_stated c a (ItemKind.Component r) s in absurd (cc (k, kind))
+          by (ItemKind.Module r) t s kind e = let k = kind_stated c a (ItemKind.Module r) s in absurd (cc (k, kind))
+          by (ItemKind.Value r) t s kind e = let k = kind_stated c a (ItemKind.Value r) s in absurd (cc (k, kind))
+
+      -- ---- values
+
+      own_hangs : (r : ResourceId) → Stands c (ItemKind.Value (ValueType.Own r)) → IsMissing c us i (ItemKind.Ty (TypeKind.Resource r)) → IsMissing c us i (ItemKind.Ty (TypeKind.Value (ValueType.Own r))) → Dangles h (stated_of c (ItemKind.Value (ValueType.Own r)))
+      own_hangs r st f g =
+          let k = ItemKind.Value (ValueType.Own r) in
+          let o = own_node c r st in
+          handle (ap (λ x. role (shape_of x)) (stated_step c a k (own_of o.0, o.1) o.2)) (unused (ValueType.Own r) (typed_value_stands c (ValueType.Own r) ∙ st) g)
+          (rootless r (own_resource c a r st) f (root_name (stated_of c k)) (own_root c a r st))
+
+      borrow_hangs : (r : ResourceId) → Stands c (ItemKind.Value (ValueType.Borrow r)) → IsMissing c us i (ItemKind.Ty (TypeKind.Resource r)) → IsMissing c us i (ItemKind.Ty (TypeKind.Value (ValueType.Borrow r))) → Dangles h (stated_of c (ItemKind.Value (ValueType.Borrow r)))
+      borrow_hangs r st f g =
+          let k = ItemKind.Value (ValueType.Borrow r) in
+          let o = borrow_node c r st in
+          handle (ap (λ x. role (shape_of x)) (stated_step c a k (borrow_of o.0, o.1) o.2)) (unused (ValueType.Borrow r) (typed_value_stands c (ValueType.Borrow r) ∙ st) g)
+          (rootless r (borrow_resource c a r st) f (root_name (stated_of c k)) (borrow_root c a r st))
+
+      defined_hangs : (d : DefinedTypeId) (v : ValueType) → Stands c (ItemKind.Value (ValueType.Defined d)) → IsMissing c us i (ItemKind.Ty (TypeKind.Value (ValueType.Defined d))) → Among (Some (ItemKind.Value v)) (slots_of c (ItemKind.Value (ValueType.Defined d)))
+          → Dangles h (stated_of c (ItemKind.Value v)) → Dangles h (stated_of c (ItemKind.Value (ValueType.Defined d)))
+      defined_hangs d v st g m deep =
+          let k = ItemKind.Value (ValueType.Defined d) in
+          let y = defined_found c d st in
+          let is = defined_node c d y.value y.at y.own in
+          part (ap (λ z. role (shape_of z)) (stated_step c a k (defined_entry y.value) is) ∙ compound y.value) (unused (ValueType.Defined d) (typed_value_stands c (ValueType.Defined d) ∙ st) g) (place_is c a k (defined_entry y.value) (ItemKind.Value v) is m) deep
+
+      hangs : (k : ItemKind) → DanglesBeside c us i k → (v : ValueType) → k ≡ ItemKind.Value v → Stands c k → Dangles h (stated_of c k)
+      hangs _ (own_beside {r = r} f g) v e st = own_hangs r st f g
+      hangs _ (borrow_beside {r = r} f g) v e st = borrow_hangs r st f g
+      hangs _ (part_beside {k = k} {v = w} g m d) v e st = by (λ inside. hangs (ItemKind.Value w) d w refl inside) v e
+        where
+          by : (Stands c (ItemKind.Value w) → Dangles h (stated_of c (ItemKind.Value w))) → (v : ValueType) → k ≡ ItemKind.Value v → Dangles h (stated_of c k)
+          by deep (ValueType.Primitive p) e = absurd (subst (λ l. Among (Some (ItemKind.Value w)) l) (ap (slots_of c) e ∙ slots_primitive c p) m)
+          by deep (ValueType.Own r) e = absurd (no_value_in c r w (own_resource c a r (subst (λ j. Stands c j) e st)) (subst (λ l. Among (Some (ItemKind.Value w)) l) (ap (slots_of c) e ∙ slots_own c r) m))
+          by deep (ValueType.Borrow r) e = absurd (no_value_in c r w (borrow_resource c a r (subst (λ j. Stands c j) e st)) (subst (λ l. Among (Some (ItemKind.Value w)) l) (ap (slots_of c) e ∙ slots_borrow c r) m))
+          by deep (ValueType.Defined t) e =
+              let there = subst (λ j. Among (Some (ItemKind.Value w)) (slots_of c j)) e m in
+              let st = subst (λ j. Stands c j) e st in
+              let y = defined_found c t st in
+              let inside = place_stands c a (ItemKind.Value (ValueType.Defined t)) (defined_entry y.value) (ItemKind.Value w) (defined_node c t y.value y.at y.own) there in
+              subst (λ j. Dangles h (stated_of c j)) (sym e) (defined_hangs t w st (subst (IsMissingValue c us i) e g) there (deep inside))
+
+      func_hangs : (k : ItemKind) → DanglesBeside c us i k → (f : FuncTypeId) → k ≡ ItemKind.Func f → Stands c k → (y : Stated) × Among (Some y) (places_of (stated_of c k)) × Dangles h y
+      func_hangs _ (own_beside {r = r} f g) t e st = absurd (cc e)
+      func_hangs _ (borrow_beside {r = r} f g) t e st = absurd (cc e)
+      func_hangs _ (part_beside {k = k} {v = v} g m d) t e st =
+          let y = node_of (item_node c k) st in
+          (stated_of c (ItemKind.Value v), place_is c a k y.0 (ItemKind.Value v) y.1 m, hangs (ItemKind.Value v) d v refl (place_stands c a k y.0 (ItemKind.Value v) y.1 m))
+
+      -- ---- exports
+
+      -- a use gives resources and value types alone
+      gives_type : (n : Name) (k : ItemKind) → Stands c k → (IsOfUsedKind k → ⊥) → IsGiven h n (stated_of c k) → ⊥
+      gives_type n k st other g =
+          let s = given_stocked n k g in
+          let same : item_kind s.0 ≡ item_kind k = sym (kind_is c a s.0 s.2) ∙ ap tree_kind s.4 ∙ kind_is c a k st in
+          other (elim (used_kind_is s.0 s.3) [ inl e ↦ inl (sym same ∙ e) | inr e ↦ inr (sym same ∙ e) ])
+
+      missing_of : (k : ItemKind) → DanglesBeside c us i k → IsMissingValue c us i k
+      missing_of _ (own_beside f g) = g
+      missing_of _ (borrow_beside f g) = g
+      missing_of _ (part_beside g m d) = g
+
+      resource_fails : (outer : Bool) (n : Name) (q : ResourceId) → Among (n, ItemKind.Ty (TypeKind.Resource q)) (exports_in c i) → Stands c (ItemKind.Ty (TypeKind.Resource q)) → IsMissing c us i (ItemKind.Ty (TypeKind.Resource q))
+          → CannotBeWritten outer h n (stated_of c (ItemKind.Ty (TypeKind.Resource q)))
+      resource_fails outer n q m st f = let y = resource_found c q st in by y.value.name y.value.alias (resource_node c q y.value y.at y.own)
+        where
+          own_name : (r : Name) → item_node c (ItemKind.Ty (TypeKind.Resource q)) ≡ Some (resource_entry_at r None) → n ≡ r → ⊥
+          own_name r is e =
+              let root = ap root_name (stated_step c a (ItemKind.Ty (TypeKind.Resource q)) (resource_entry_at r None) is) in
+              f (ItemKind.Ty (TypeKind.Resource q), inr (n, m, (st, resource_tree q st ∙ ap (λ z. rigid (resource z) end) (root ∙ sym e))), refl)
+
+          by : (r : Name) (o : Option ResourceAlias) → item_node c (ItemKind.Ty (TypeKind.Resource q)) ≡ Some (resource_entry_at r o) → CannotBeWritten outer h n (stated_of c (ItemKind.Ty (TypeKind.Resource q)))
+          by r None is = renamed r (ap shape_of (stated_step c a (ItemKind.Ty (TypeKind.Resource q)) (resource_entry_at r None) is)) (own_name r is) (not_given n (ItemKind.Ty (TypeKind.Resource q)) f)
+          by r (Some b) is = an_alias r (ap shape_of (stated_step c a (ItemKind.Ty (TypeKind.Resource q)) (resource_entry_at r (Some b)) is)) (rootless q st f (root_name (stated_of c (ItemKind.Ty (TypeKind.Resource q)))) refl)
+
+      abbrev Fails : Bool → Name → ItemKind → Type 0
+      Fails outer n k = (IsGiven h n (stated_of c k) → ⊥) × CannotBeWritten outer h n (stated_of c k)
+
+      export_fails : (outer : Bool) (n : Name) (k : ItemKind) → Among (n, k) (exports_in c i) → ((w : WorldId) → IsOfWorld k w → ⊥) → ExportRefused c us i k → Stands c k → Fails outer n k
+      export_fails outer n (ItemKind.Ty (TypeKind.Resource q)) m no_world f st = (not_given n (ItemKind.Ty (TypeKind.Resource q)) f, resource_fails outer n q m st f)
+      export_fails outer n (ItemKind.Ty (TypeKind.Func g)) m no_world f st =
+          let k = ItemKind.Ty (TypeKind.Func g) in
+          let d = func_hangs (ItemKind.Func g) f g refl (stands_typed_func c g st) in
+          (gives_type n k st (λ e. elim e [ inl p ↦ absurd (cc p) | inr p ↦ absurd (cc p) ]), a_function_type (kind_stated c a k st) (typed_place c a g d.0 st d.1) d.2)
+      export_fails outer n (ItemKind.Ty (TypeKind.Value v)) m no_world f st =
+          let k = ItemKind.Ty (TypeKind.Value v) in
+          (not_given n k (missing_of (ItemKind.Value v) f), a_value_type (kind_stated c a k st) (subst (Dangles h) (sym (value_untyped c a v st)) (hangs (ItemKind.Value v) f v refl (stands_typed_value c v st))))
+      export_fails outer n (ItemKind.Ty (TypeKind.Interface j)) m no_world f st = absurd f
+      export_fails outer n (ItemKind.Ty (TypeKind.World w)) m no_world f st = absurd (no_world w refl)
+      export_fails outer n (ItemKind.Ty (TypeKind.Module q)) m no_world f st =
+          let k = ItemKind.Ty (TypeKind.Module q) in
+          (gives_type n k st (λ e. elim e [ inl p ↦ absurd (cc p) | inr p ↦ absurd (cc p) ]), module_as_type (kind_stated c a k st))
+      export_fails outer n (ItemKind.Func g) m no_world f st =
+          let k = ItemKind.Func g in
+          let d = func_hangs k f g refl st in
+          (gives_type n k st (λ e. elim e [ inl p ↦ absurd (cc p) | inr p ↦ absurd (cc p) ]), a_function (kind_stated c a k st) d.1 d.2)
+      export_fails outer n (ItemKind.Instance j) m no_world f st = absurd f
+      export_fails outer n (ItemKind.Component w) m no_world f st = absurd (no_world w refl)
+      export_fails outer n (ItemKind.Module q) m no_world f st =
+          let k = ItemKind.Module q in
+          (gives_type n k st (λ e. elim e [ inl p ↦ absurd (cc p) | inr p ↦ absurd (cc p) ]), core_items f.0 (module_shape c a q f.0 st f.1) (module_false f.0 f.2))
+      export_fails outer n (ItemKind.Value v) m no_world f st =
+          let k = ItemKind.Value v in
+          (gives_type n k st (λ e. elim e [ inl p ↦ absurd (cc p) | inr p ↦ absurd (cc p) ]), a_value (kind_stated c a k st))
+
+      -- an export of an interface that fails
+      inner_fails : (outer : Bool) (n : Name) (k : ItemKind) (j : InterfaceId) → IsOfInterface k j → Stands c k → ItemsFail outer (uses_of (stated_of c (ItemKind.Instance j))) (exports_of (stated_of c (ItemKind.Instance j))) → Fails outer n k
+      inner_fails outer n k j is st f =
+          let p = has_parts c a k j is st in
+          by k is st (subst (λ us. ItemsFail outer us (exports_of (stated_of c k))) (sym p.uses) (subst (ItemsFail outer (uses_of (stated_of c (ItemKind.Instance j)))) (sym p.exports) f))
+        where
+          by : (k : ItemKind) → IsOfInterface k j → Stands c k → ItemsFail outer (uses_of (stated_of c k)) (exports_of (stated_of c k)) → Fails outer n k
+          by (ItemKind.Instance l) is st f = (gives_type n (ItemKind.Instance l) st (λ e. elim e [ inl p ↦ absurd (cc p) | inr p ↦ absurd (cc p) ]), an_instance (kind_stated c a (ItemKind.Instance l) st) f)
+          by (ItemKind.Ty (TypeKind.Interface l)) is st f =
+              (gives_type n (ItemKind.Ty (TypeKind.Interface l)) st (λ e. elim e [ inl p ↦ absurd (cc p) | inr p ↦ absurd (cc p) ]), an_interface (kind_stated c a (ItemKind.Ty (TypeKind.Interface l)) st) f)
+          by (ItemKind.Ty (TypeKind.Resource r)) is st f = absurd is
+          by (ItemKind.Ty (TypeKind.Func r)) is st f = absurd is
+          by (ItemKind.Ty (TypeKind.Value r)) is st f = absurd is
+          by (ItemKind.Ty (TypeKind.World r)) is st f = absurd is
+          by (ItemKind.Ty (TypeKind.Module r)) is st f = absurd is
+          by (ItemKind.Func r) is st f = absurd is
+          by (ItemKind.Component r) is st f = absurd is
+          by (ItemKind.Module r) is st f = absurd is
+          by (ItemKind.Value r) is st f = absurd is
+
+      item_fails : (outer : Bool) (n : Name) (k : ItemKind) → Among (n, k) (exports_in c i) → Fails outer n k → ItemsFail outer (uses_of x) (exports_of x)
+      item_fails outer n k m f =
+          an_item (subst (Among (n, stated_of c k)) (sym (exports_are c a i)) (among_mapped (λ (e : Name × ItemKind). (e.0, stated_of c e.1)) (exports_in c i) (n, k) m)) f.0 f.1
+
+-- ---- interfaces
+
+module _ (c : Collection) (a : IsAcyclic c) (us : table.Used) where
+  within_more : (id : InterfaceId) (n : Name) (k : ItemKind) (j : InterfaceId) → Among (n, k) (exports_in c id) → IsOfInterface k j → (i : InterfaceId) → IsWithin c j i → IsWithin c id i
+  within_more id n k j m is _ itself = exported n k itself m is
+  within_more id n k j m is _ (exported {i = i} p l w q e) = exported p l (within_more id n k j m is i w) q e
+
+  unnamed_use_of : (id : InterfaceId) → UseRefused c id → some_unnamed (uses_of (stated_of c (ItemKind.Instance id))) ≡ true
+  unnamed_use_of id f =
+      let e = f.2.0 in
+      let own : identifier_in (interface_in c e.1.interface) ≡ None = ap (λ j. identifier_in (interface_in c j)) (sym f.2.2.interface) ∙ f.3.2 in
+      let lacks : is_unnamed c e.1.interface ≡ true = ap (λ o. is_none o || uses_unnamed c e.1.interface) (identifier_is c a e.1.interface ∙ own) in
+      used_by c a id ∙ any_true (unnamed_use c) (uses_in c id) e (slice_among (uses_in c id) f.0 e f.2.1) lacks
+
+  interface_stands : (k : ItemKind) (j : InterfaceId) → IsOfInterface k j → Stands c k → Stands c (ItemKind.Instance j)
+  interface_stands (ItemKind.Instance l) j e s = subst (λ z. Stands c (ItemKind.Instance z)) e s
+  interface_stands (ItemKind.Ty (TypeKind.Interface l)) j e s = subst (λ z. Stands c (ItemKind.Instance z)) e (stands_typed_interface c l s)
+  interface_stands (ItemKind.Ty (TypeKind.Resource r)) j e s = absurd e
+  interface_stands (ItemKind.Ty (TypeKind.Func r)) j e s = absurd e
+  interface_stands (ItemKind.Ty (TypeKind.Value r)) j e s = absurd e
+  interface_stands (ItemKind.Ty (TypeKind.World r)) j e s = absurd e
+  interface_stands (ItemKind.Ty (TypeKind.Module r)) j e s = absurd e
+  interface_stands (ItemKind.Func r) j e s = absurd e
+  interface_stands (ItemKind.Component r) j e s = absurd e
+  interface_stands (ItemKind.Module r) j e s = absurd e
+  interface_stands (ItemKind.Value r) j e s = absurd e
+
+  abbrev Outcome : Bool → ℕ → InterfaceId → Type 0
+  Outcome outer depth id =
+      ItemsFail outer (uses_of (stated_of c (ItemKind.Instance id))) (exports_of (stated_of c (ItemKind.Instance id))) ⊎ ((m : ℕ) × (depth + m ≡ 2 ^ 64 - 1) × Nests c m id)
+
+  refused_fails : (outer : Bool) (depth : ℕ) (id : InterfaceId) → InstanceRefused c us depth id → Stands c (ItemKind.Instance id) → HasNoWorld c id → AllStandAround c us id → Outcome outer depth id
+  refused_fails outer depth id (too_deep e) st no_world all = inr (zero, plus_none depth ∙ e, ends)
+    where
+      plus_none : (n : ℕ) → n + zero ≡ n
+      plus_none n = omega arith
+  refused_fails outer depth id (use_refused u) st no_world all = inl (unnamed (unnamed_use_of id u))
+  refused_fails outer depth id (export_refused n k m f) st no_world all =
+      inl (item_fails c a us id (all id itself) st outer n k m (export_fails c a us id (all id itself) st outer n k m (no_world id itself n k m) f (exports_stand c a id st (n, k) m)))
+  refused_fails outer depth id (inner_refused {inner = j} n k m is r) st no_world all =
+      let there = exports_stand c a id st (n, k) m in
+      elim (refused_fails outer (depth + 1) j r (interface_stands k j is there) (λ i w. no_world i (within_more id n k j m is i w)) (λ i w. all i (within_more id n k j m is i w))) [
+        | inl f ↦ inl (item_fails c a us id (all id itself) st outer n k m (inner_fails c a us id (all id itself) st outer n k j is there f))
+        | inr d ↦ inr (suc d.0, one_more depth d.0 ∙ d.1, goes n k m is d.2)
+      ]
+    where
+      one_more : (n m : ℕ) → n + suc m ≡ (n + 1) + m
+      one_more n m = omega arith
+
+pub instance_unwritable : Refused_instance_is_unwritable
+instance_unwritable c a us id st no_world all outer depth r = refused_fails c a us outer depth id r st no_world all
