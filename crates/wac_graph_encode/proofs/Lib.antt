@@ -36,4 +36,5 @@ pub mod Refusing
 pub mod Circling
 pub mod CoreRefused
 pub mod StockLaws
+pub mod SmallerInterfaces
 pub mod RefusedInstances

@@ -1,5 +1,5 @@
 -- Instance types that the writer refuses where all that they use stands around.
-use Rattle.std.proofs.Common.{◌≡◌, ◌⊎◌, ◌+◌, ◌-◌, ◌^◌, ℕ, zero, suc, Bool, true, false, List, [], ◌∷◌, ◌++◌, map, Option, Some, None, IsSome, inl, inr, refl, sym, ap, ◌∙◌, subst, slice_get, unwrap_or, arith}
+use Rattle.std.proofs.Common.{◌≡◌, ◌⊎◌, ◌<◌, ◌≤◌, ◌+◌, length, ◌-◌, ◌^◌, ℕ, zero, suc, Bool, true, false, List, [], ◌∷◌, map, Option, Some, None, IsSome, inl, inr, refl, sym, ap, ◌∙◌, subst, slice_get, unwrap_or, arith}
 use Rattle.std.specs.Prelude.{◌&&◌, ◌||◌, bytes_eq, filter, option_map, is_none}
 use Rattle.std.specs.List.{list_any}
 use Rattle.std.proofs.lemmas.Slice.Eq.{bytes_eq-Decides}
@@ -8,9 +8,7 @@ use Rattle.wac_types_base.specs.declared.ids.InterfaceId.{InterfaceId}
 use Rattle.wac_types_base.specs.declared.ids.WorldId.{WorldId}
 use Rattle.wac_types_base.specs.declared.ids.DefinedTypeId.{DefinedTypeId}
 use Rattle.wac_types_base.specs.declared.ids.FuncTypeId.{FuncTypeId}
-use Rattle.wac_types_base.specs.declared.ids.ModuleTypeId.{ModuleTypeId}
 use Rattle.wac_types_base.specs.declared.ids.ResourceId.{ResourceId}
-use Rattle.wac_types_base.specs.declared.core_types.ModuleType.{ModuleType}
 use Rattle.wac_types_base.specs.declared.item.ValueType.{ValueType}
 use Rattle.wac_types_base.specs.declared.item.«Type».{«Type» as TypeKind}
 use Rattle.wac_types_base.specs.declared.item.ItemKind.{ItemKind}
@@ -21,39 +19,39 @@ use Rattle.wac_types_base.specs.Entries.{Name, value_at}
 use Rattle.wac_types_base.specs.Graph.{Among}
 use Rattle.wac_types_base.specs.Collection.{Stands, IsAcyclic, item_node, slots_of, resource, resource_entry_at, defined_entry, own_of, borrow_of}
 use Rattle.wac_types_base.specs.Stated.{Stated, IsResource, IsValueType, shape_of, places_of, untyped, kind_of, stated_of, uses_of, exports_of, root_name}
-use Rattle.wac_types_base.specs.Tree.{Tree, tree, type_item, rigid, end}
+use Rattle.wac_types_base.specs.Tree.{tree, type_item, rigid, end}
 use Rattle.wac_types_base.proofs.Lists.{among_mapped, among_split, among_filtered, from_filtered}
 use Rattle.wac_types_base.proofs.Standing.{resource_found, defined_found, typed_value_stands}
 use Rattle.wac_types_base.proofs.Stating.{stated_uses}
-use Rattle.wac_types_base.proofs.Slots.{slots_own, slots_borrow, slots_primitive, stands_typed_value, stands_typed_func, stands_typed_interface}
+use Rattle.wac_types_base.proofs.Slots.{slots_own, slots_borrow, slots_primitive, stands_typed_value, stands_typed_func}
 use Rattle.wac_types_base.proofs.Telling.{item_kind, kind_stated, stated_step, own_node, borrow_node, defined_node, resource_node}
 use Rattle.wac_types_fit.specs.Trees.{tree_in}
 use Rattle.wac_types_fit.proofs.Items.{value_at-among}
 use Rattle.wac_types_fit.proofs.ItemKinds.{kind_is, tree_kind}
 use Rattle.wac_types_fit.proofs.Unfolded.{type_value}
-use Rattle.wac_types_parts.specs.Parts.{IsFresh, IsOfInterface, IsOfWorld, IsUsedKind, IsUseAt, used_if, interface_in}
+use Rattle.wac_types_parts.specs.Parts.{IsOfInterface, IsOfWorld, IsUsedKind, used_if, interface_in}
 use Rattle.wac_types_base.specs.Parts.{identifier_in}
 use Rattle.wac_types_parts.specs.Parts.{exports_of as exports_in, uses_of as uses_in}
 use Rattle.wac_types_parts.proofs.PartsStated.{uses_are, exports_are, identifier_is}
 use Rattle.wac_composition.specs.Writable.{Holder, is_fresh, is_resource, root_of, taken, holder, some_unnamed}
-use Rattle.wac_composition.specs.NotWritten.{IsGiven, IsUsed, HasRoot, Compound, role, Dangles, handle, part, CannotBeWritten, a_value, core_items, module_as_type, renamed, an_alias, a_function, a_function_type, a_value_type, an_instance, an_interface, ItemsFail, unnamed, an_item}
+use Rattle.wac_composition.specs.NotWritten.{IsGiven, IsUsed, role, Dangles, handle, part, CannotBeWritten, a_value, core_items, module_as_type, renamed, an_alias, a_function, a_function_type, a_value_type, an_instance, an_interface, ItemsFail, unnamed, an_item}
 use Rattle.wac_composition.proofs.Lists.{mapped_among}
 use Rattle.wac_writable.specs.Unnamed.{is_unnamed, uses_unnamed}
 use Rattle.wac_writable.proofs.UnnamedLaws.{unnamed_use, used_by}
-use Rattle.wac_writable.proofs.ItemLaws.{root_named, resource_kind, other_kind}
+use Rattle.wac_writable.proofs.ItemLaws.{root_named, other_kind}
 use Rattle.wac_writable.proofs.HolderLaws.{export_item_stands, takes, used_from}
 use Rattle.wac_writable.proofs.TypesLaws.{exports_stand}
 use Rattle.wac_writable.proofs.InterfaceLaws.{has_parts}
 use Rattle.wac_writable.proofs.ValueLaws.{own_root, borrow_root, own_resource, borrow_resource}
-use Rattle.wac_graph_scopes.specs.declared.fault.WriteError.{WriteError}
 use Rattle.wac_graph_scopes.specs.Used as table
-use Rattle.wac_graph_scopes.specs.Stock.{IsTaken, IsOwn, IsStocked}
+use Rattle.wac_graph_scopes.specs.Stock.{IsTaken, IsStocked}
 use Rattle.wac_graph_scopes.specs.InstanceRefusals.{InstanceRefused, too_deep, use_refused, export_refused, inner_refused, UseRefused, IsMissing, IsMissingValue, DanglesBeside, own_beside, borrow_beside, part_beside, ExportRefused}
 use Rattle.wac_graph_scopes.proofs.UsedLaws as used
 use Rattle.wac_graph_scopes.proofs.LackingLaws.{no_value_in}
 use Rattle.wac_graph_encode.proofs.CoreRefused.{module_false}
+use Rattle.wac_graph_encode.proofs.SmallerInterfaces.{smaller, interface_stands, fewer_inside, fewer_than_all}
 use Rattle.wac_graph_encode.proofs.StockLaws.{node_of, compound, tree_is, place_is, place_stands, typed_place, value_untyped, module_shape}
-use Rattle.wac_graph_encode.specs.RefusedInstances.{IsWithin, itself, exported, HasNoWorld, AllStandAround, Nests, ends, goes, Refused_instance_is_unwritable}
+use Rattle.wac_graph_encode.specs.RefusedInstances.{IsWithin, itself, exported, HasNoWorld, AllStandAround, Refused_instance_is_unwritable}
 
 -- ---- kinds
 
@@ -172,10 +170,10 @@ module _ (c : Collection) (a : IsAcyclic c) (us : table.Used) (i : InterfaceId) 
           let b = and_both (is_resource (kind_of (stated_of c k))) (bytes_eq n (root_name (stated_of c k))) e in
           by_resource (λ j. Among (n, j) (exports_in c i) → bytes_eq n (root_name (stated_of c j)) ≡ true → IsStocked c us i (rigid (resource (root_name (stated_of c j))) end)) k b.0
           (λ r there same. (
-            let st = exports_stand c a i stands (n, ItemKind.Ty (TypeKind.Resource r)) there in
-            let is = resource_tree r st in
-            let named : n ≡ root_name (stated_of c (ItemKind.Ty (TypeKind.Resource r))) = (bytes_eq-Decides n (root_name (stated_of c (ItemKind.Ty (TypeKind.Resource r))))).0 same in
-            (ItemKind.Ty (TypeKind.Resource r), inr (n, there, (st, is ∙ ap (λ m. rigid (resource m) end) (sym named))), is)
+          let st = exports_stand c a i stands (n, ItemKind.Ty (TypeKind.Resource r)) there in
+          let is = resource_tree r st in
+          let named : n ≡ root_name (stated_of c (ItemKind.Ty (TypeKind.Resource r))) = (bytes_eq-Decides n (root_name (stated_of c (ItemKind.Ty (TypeKind.Resource r))))).0 same in
+          (ItemKind.Ty (TypeKind.Resource r), inr (n, there, (st, is ∙ ap (λ m. rigid (resource m) end) (sym named))), is)
           )) m b.1
 
       taken_stocked : (k : ItemKind) → IsTaken c us i k → Stands c k → is_resource (kind_of (stated_of c k)) ≡ true → IsStocked c us i (rigid (resource (root_name (stated_of c k))) end)
@@ -187,19 +185,19 @@ module _ (c : Collection) (a : IsAcyclic c) (us : table.Used) (i : InterfaceId) 
       root_stocked : (m : Name) → Among m h.roots → IsStocked c us i (rigid (resource m) end)
       root_stocked m there = elim (among_split m (map root_of (filter is_fresh (exports_of x))) (map root_of (filter (λ e. is_resource (kind_of e.1)) h.used)) there) [
         | inl p ↦ (
-          let e = mapped_among root_of (filter is_fresh (exports_of x)) m p in
-          let f = among_filtered is_fresh (exports_of x) e.0 e.1 in
-          let k = mapped_among (λ (e : Name × ItemKind). (e.0, stated_of c e.1)) (exports_in c i) e.0 (subst (Among e.0) (exports_are c a i) f.0) in
-          subst (λ n. IsStocked c us i (rigid (resource n) end)) (ap root_of (sym k.2) ∙ sym e.2)
-          (own_stocked k.0.0 k.0.1 k.1 (ap is_fresh (sym k.2) ∙ f.1))
-          )
+            let e = mapped_among root_of (filter is_fresh (exports_of x)) m p in
+            let f = among_filtered is_fresh (exports_of x) e.0 e.1 in
+            let k = mapped_among (λ (e : Name × ItemKind). (e.0, stated_of c e.1)) (exports_in c i) e.0 (subst (Among e.0) (exports_are c a i) f.0) in
+            subst (λ n. IsStocked c us i (rigid (resource n) end)) (ap root_of (sym k.2) ∙ sym e.2)
+            (own_stocked k.0.0 k.0.1 k.1 (ap is_fresh (sym k.2) ∙ f.1))
+            )
         | inr p ↦ (
-          let e = mapped_among root_of (filter (λ e. is_resource (kind_of e.1)) h.used) m p in
-          let f = among_filtered (λ e. is_resource (kind_of e.1)) h.used e.0 e.1 in
-          let t = taken_item e.0.0 e.0.1 f.0 in
-          subst (λ n. IsStocked c us i (rigid (resource n) end)) (ap root_name (sym t.is) ∙ sym e.2)
-          (taken_stocked t.item t.taken t.stands (ap (λ y. is_resource (kind_of y)) (sym t.is) ∙ f.1))
-          )
+            let e = mapped_among root_of (filter (λ e. is_resource (kind_of e.1)) h.used) m p in
+            let f = among_filtered (λ e. is_resource (kind_of e.1)) h.used e.0 e.1 in
+            let t = taken_item e.0.0 e.0.1 f.0 in
+            subst (λ n. IsStocked c us i (rigid (resource n) end)) (ap root_name (sym t.is) ∙ sym e.2)
+            (taken_stocked t.item t.taken t.stands (ap (λ y. is_resource (kind_of y)) (sym t.is) ∙ f.1))
+            )
       ]
 
       -- ---- what does not
@@ -378,40 +376,27 @@ module _ (c : Collection) (a : IsAcyclic c) (us : table.Used) where
       let lacks : is_unnamed c e.1.interface ≡ true = ap (λ o. is_none o || uses_unnamed c e.1.interface) (identifier_is c a e.1.interface ∙ own) in
       used_by c a id ∙ any_true (unnamed_use c) (uses_in c id) e (slice_among (uses_in c id) f.0 e f.2.1) lacks
 
-  interface_stands : (k : ItemKind) (j : InterfaceId) → IsOfInterface k j → Stands c k → Stands c (ItemKind.Instance j)
-  interface_stands (ItemKind.Instance l) j e s = subst (λ z. Stands c (ItemKind.Instance z)) e s
-  interface_stands (ItemKind.Ty (TypeKind.Interface l)) j e s = subst (λ z. Stands c (ItemKind.Instance z)) e (stands_typed_interface c l s)
-  interface_stands (ItemKind.Ty (TypeKind.Resource r)) j e s = absurd e
-  interface_stands (ItemKind.Ty (TypeKind.Func r)) j e s = absurd e
-  interface_stands (ItemKind.Ty (TypeKind.Value r)) j e s = absurd e
-  interface_stands (ItemKind.Ty (TypeKind.World r)) j e s = absurd e
-  interface_stands (ItemKind.Ty (TypeKind.Module r)) j e s = absurd e
-  interface_stands (ItemKind.Func r) j e s = absurd e
-  interface_stands (ItemKind.Component r) j e s = absurd e
-  interface_stands (ItemKind.Module r) j e s = absurd e
-  interface_stands (ItemKind.Value r) j e s = absurd e
-
-  abbrev Outcome : Bool → ℕ → InterfaceId → Type 0
-  Outcome outer depth id =
-      ItemsFail outer (uses_of (stated_of c (ItemKind.Instance id))) (exports_of (stated_of c (ItemKind.Instance id))) ⊎ ((m : ℕ) × (depth + m ≡ 2 ^ 64 - 1) × Nests c m id)
-
-  refused_fails : (outer : Bool) (depth : ℕ) (id : InterfaceId) → InstanceRefused c us depth id → Stands c (ItemKind.Instance id) → HasNoWorld c id → AllStandAround c us id → Outcome outer depth id
-  refused_fails outer depth id (too_deep e) st no_world all = inr (zero, plus_none depth ∙ e, ends)
+  refused_fails : (outer : Bool) (depth : ℕ) (id : InterfaceId) → InstanceRefused c us depth id → depth + smaller c id < 2 ^ 64 - 1 → Stands c (ItemKind.Instance id) → HasNoWorld c id → AllStandAround c us id
+      → ItemsFail outer (uses_of (stated_of c (ItemKind.Instance id))) (exports_of (stated_of c (ItemKind.Instance id)))
+  refused_fails outer depth id (too_deep e) few st no_world all = absurd (too_few depth (smaller c id) (2 ^ 64 - 1) e few)
     where
-      plus_none : (n : ℕ) → n + zero ≡ n
-      plus_none n = omega arith
-  refused_fails outer depth id (use_refused u) st no_world all = inl (unnamed (unnamed_use_of id u))
-  refused_fails outer depth id (export_refused n k m f) st no_world all =
-      inl (item_fails c a us id (all id itself) st outer n k m (export_fails c a us id (all id itself) st outer n k m (no_world id itself n k m) f (exports_stand c a id st (n, k) m)))
-  refused_fails outer depth id (inner_refused {inner = j} n k m is r) st no_world all =
+      too_few : (n m top : ℕ) → n ≡ top → n + m < top → ⊥
+      too_few n m top e few = omega arith
+  refused_fails outer depth id (use_refused u) few st no_world all = unnamed (unnamed_use_of id u)
+  refused_fails outer depth id (export_refused n k m f) few st no_world all =
+      item_fails c a us id (all id itself) st outer n k m (export_fails c a us id (all id itself) st outer n k m (no_world id itself n k m) f (exports_stand c a id st (n, k) m))
+  refused_fails outer depth id (inner_refused {inner = j} n k m is r) few st no_world all =
       let there = exports_stand c a id st (n, k) m in
-      elim (refused_fails outer (depth + 1) j r (interface_stands k j is there) (λ i w. no_world i (within_more id n k j m is i w)) (λ i w. all i (within_more id n k j m is i w))) [
-        | inl f ↦ inl (item_fails c a us id (all id itself) st outer n k m (inner_fails c a us id (all id itself) st outer n k j is there f))
-        | inr d ↦ inr (suc d.0, one_more depth d.0 ∙ d.1, goes n k m is d.2)
-      ]
+      let still = one_more depth (smaller c j) (smaller c id) (2 ^ 64 - 1) (fewer_inside c a id st n k m j is) few in
+      let f = refused_fails outer (depth + 1) j r still (interface_stands c a k j is there).0 (λ i w. no_world i (within_more id n k j m is i w)) (λ i w. all i (within_more id n k j m is i w)) in
+      item_fails c a us id (all id itself) st outer n k m (inner_fails c a us id (all id itself) st outer n k j is there f)
     where
-      one_more : (n m : ℕ) → n + suc m ≡ (n + 1) + m
-      one_more n m = omega arith
+      one_more : (n i m top : ℕ) → i < m → n + m < top → (n + 1) + i < top
+      one_more n i m top less few = omega arith
 
 pub instance_unwritable : Refused_instance_is_unwritable
-instance_unwritable c a us id st no_world all outer depth r = refused_fails c a us outer depth id r st no_world all
+instance_unwritable c a us id st no_world all outer depth few r =
+    refused_fails c a us outer depth id r (less depth (smaller c id) (length c.interfaces) (2 ^ 64 - 1) (fewer_than_all c a id st) few) st no_world all
+  where
+    less : (n m all top : ℕ) → m < all → n + all ≤ top → n + m < top
+    less n m all top below few = omega arith

@@ -1,5 +1,5 @@
 -- Instance types that the writer refuses where all that they use stands around.
-use Rattle.std.specs.Prelude.{◌≡◌, ◌⊎◌, ◌+◌, ◌-◌, ◌^◌, ℕ, Bool, zero, suc, Some, None, unwrap_or}
+use Rattle.std.specs.Prelude.{◌≡◌, ◌≤◌, ◌+◌, ◌-◌, ◌^◌, ℕ, Bool, length, Some, unwrap_or}
 use Rattle.wac_types_base.specs.declared.ids.InterfaceId.{InterfaceId}
 use Rattle.wac_types_base.specs.declared.ids.WorldId.{WorldId}
 use Rattle.wac_types_base.specs.declared.item.ItemKind.{ItemKind}
@@ -8,7 +8,7 @@ use Rattle.wac_types_base.specs.Record.{Collection}
 use Rattle.wac_types_base.specs.Entries.{Name, value_at}
 use Rattle.wac_types_base.specs.Graph.{Among}
 use Rattle.wac_types_base.specs.Collection.{Stands, IsAcyclic}
-use Rattle.wac_types_base.specs.Stated.{Stated, stated_of, uses_of, exports_of}
+use Rattle.wac_types_base.specs.Stated.{stated_of, uses_of, exports_of}
 use Rattle.wac_types_parts.specs.Parts.{IsOfInterface, IsOfWorld, used_if}
 use Rattle.wac_types_parts.specs.Parts.{exports_of as exports_in, uses_of as uses_in}
 use Rattle.wac_composition.specs.NotWritten.{ItemsFail}
@@ -33,17 +33,10 @@ module _ (c : Collection) where
   AllStandAround us id = (i : InterfaceId) → IsWithin id i → (u : Name × UsedType) → Among u (uses_in c i) → (item : ItemKind)
       → used_if (value_at (exports_in c u.1.interface) (unwrap_or u.1.name u.0)) ≡ Some item → IsTaken c us i item
 
-  -- so many interfaces stand each among the exports of the one before
-  pub data Nests : ℕ → InterfaceId → Type 0 where
-    ends : {id : InterfaceId} → Nests zero id
-    goes : {m : ℕ} {id j : InterfaceId} (n : Name) (k : ItemKind) → Among (n, k) (exports_in c id) → IsOfInterface k j → Nests m j
-        → Nests (suc m) id
-
--- What could not be written as the type of an instance, where all that it uses stands around, cannot be written; but for
--- interfaces that are nested deeper than 64 bits count.
+-- What could not be written as the type of an instance, where all that it uses stands around, cannot be written. The depth and
+-- the number of interfaces together fit 64 bits.
 abbrev pub Refused_instance_is_unwritable : Type 0
 Refused_instance_is_unwritable = (c : Collection) → IsAcyclic c → (us : table.Used) (id : InterfaceId)
     → Stands c (ItemKind.Instance id) → HasNoWorld c id → AllStandAround c us id → (outer : Bool) (depth : ℕ)
-    → InstanceRefused c us depth id
+    → depth + length c.interfaces ≤ 2 ^ 64 - 1 → InstanceRefused c us depth id
     → ItemsFail outer (uses_of (stated_of c (ItemKind.Instance id))) (exports_of (stated_of c (ItemKind.Instance id)))
-    ⊎ ((m : ℕ) × (depth + m ≡ 2 ^ 64 - 1) × Nests c m id)
