@@ -550,7 +550,8 @@ impl ImportScope {
         id: InterfaceId,
     ) -> Result<(), WriteError>
         ensures keeps { KeepsWorld all.entry self.old self.new result }
-        ensures refused { IfErr result (λ e. e ≡ WriteError.Unwritable → LacksIdentifiers all.entry.types.now (ItemKind.Instance id)) }
+        ensures refused { IfErr result (λ e. e ≡ WriteError.Unwritable
+            → LacksIdentifiers all.entry.types.now (ItemKind.Instance id)) }
     {
         self.alias_uses(alloc, all, id)?;
         for at in 0..export_count(all.types, id) {
@@ -569,7 +570,8 @@ impl ImportScope {
         at: usize,
     ) -> Result<(), WriteError>
         ensures keeps { KeepsWorld all.entry self.old self.new result }
-        ensures refused { IfErr result (λ e. e ≡ WriteError.Unwritable → LacksIdentifiers all.entry.types.now (ItemKind.Instance id)) }
+        ensures refused { IfErr result (λ e. e ≡ WriteError.Unwritable
+            → LacksIdentifiers all.entry.types.now (ItemKind.Instance id)) }
     {
         match export_at(all.types, id, at) {
             Some(item) => self.prepare(alloc, all, item.kind),

@@ -88,7 +88,8 @@ fn take_use(
     used: Use<'_>,
 ) -> Result<bool, WriteError>
     ensures takes { TakesUse all.entry used.entry scope.old scope.new result }
-    ensures given { IfOk result (λ yes. yes ≡ true → HoldsExport all.entry.types.now all.entry.id scope.new.types used.entry.name.now) }
+    ensures given { IfOk result (λ yes. yes ≡ true
+        → HoldsExport all.entry.types.now all.entry.id scope.new.types used.entry.name.now) }
     ensures held { OnOk result (HoldsUse all.entry.types.now all.entry.around.used.now used.entry scope.new.types) }
     ensures keeps { OnOk result (KeepsTypes scope.old.types scope.new.types) }
     ensures refused { IfErr result (λ e. e ≡ WriteError.Unwritable → LacksIdentifier all.entry.types.now used.entry) }
@@ -158,7 +159,8 @@ fn take_uses(
 ) -> Result<Names, WriteError>
     ensures begins { BeginsInstance all.entry scope.old scope.new result }
     ensures given { IfOk result (HoldsExports all.entry.types.now all.entry.id scope.new.types) }
-    ensures held { OnOk result (HoldsUses all.entry.types.now all.entry.around.used.now all.entry.id (length (uses_of all.entry.types.now all.entry.id)) scope.new.types) }
+    ensures held { OnOk result (HoldsUses all.entry.types.now all.entry.around.used.now all.entry.id
+        (length (uses_of all.entry.types.now all.entry.id)) scope.new.types) }
     ensures refused { IfErr result (λ e. e ≡ WriteError.Unwritable → UseRefused all.entry.types.now all.entry.id) }
 {
     let mut given = Names::new(alloc);
