@@ -38,7 +38,7 @@ use Rattle.wac_parser_resolve.specs.InDocuments.{IsBuilt}
 use Rattle.wac_parser_encode.specs.Processing.{HasProcessor, IsProcessed}
 use Rattle.wac_parser_encode.specs.Sizes.{IsPastSize}
 use Rattle.wac_parser_encode.proofs.Meaning.{entries_said, imports_stated}
-use Rattle.wac_parser_encode.specs.Refused.{CanBeEncoded, HasNoFirst, IsFirst, IsOfSize, AreFirstAlike, TellsCause, RefusesResolved, TellsFirst, TellsAnywhere, fault_in}
+use Rattle.wac_parser_encode.specs.Refused.{CanBeEncoded, HasSource, HasNoFirst, IsFirst, IsOfSize, AreFirstAlike, TellsCause, RefusesResolved, TellsFirst, TellsAnywhere, fault_in}
 
 -- ---- places of askers
 
@@ -209,3 +209,20 @@ free_processed g old new (Ok a) is sound acyclic free = can_be_encoded g old sou
     (subst (λ (define : Bool). name_cause define old.validate (composition_of g) ≡ None) is.define
     (subst (λ (validate : Bool). name_cause new.define_components validate (composition_of g) ≡ None) is.validate free.alike))
 free_processed g old new (Err e) is sound acyclic free = tt
+
+-- ---- what a source tells
+
+module _ (g : Graph) where
+  pub source_told : (options : EncodeOptions) (e : EncodeError) → IsErrorFor options g e → HasSource g e
+  source_told options (EncodeError.ImportTypeMergeConflict n first second source) h = h.1
+  source_told options (EncodeError.ImplicitImportConflict import instantiation key n) h = tt
+  source_told options (EncodeError.ExplicitImportConflict n first second) h = tt
+  source_told options (EncodeError.TypeCannotBeWritten n) h = tt
+  source_told options EncodeError.TooLarge h = tt
+  source_told options (EncodeError.ValidationFailure fault) h = tt
+  source_told options (EncodeError.GraphContainsCycle node) h = tt
+  source_told options EncodeError.Memory h = tt
+
+  pub sources_told : {T : Type 0} (options : EncodeOptions) (r : Result T EncodeError) → IfErr r (IsErrorFor options g) → IfErr r (HasSource g)
+  sources_told options (Ok x) h = h
+  sources_told options (Err e) h = source_told options e h

@@ -5,11 +5,13 @@ use Rattle.wac_types_base.specs.Stated.{Stated}
 use Rattle.wac_types_names.specs.Keys.{Key, owned_key}
 use Rattle.wac_graph_core.specs.Graph.{Graph}
 use Rattle.wac_composition.specs.Conflicts.{first_cause, name_cause}
+use Rattle.wac_graph_asks.specs.Takes.{TellsConflictIn}
 use Rattle.wac_graph_causes.specs.declared.errors.EncodeError.{EncodeError}
 use Rattle.wac_graph_encode.specs.declared.options.EncodeOptions.{EncodeOptions}
 use Rattle.wac_graph_encode.specs.Refused.{HasLargeProcessor}
 use Rattle.wac_parser_tree.specs.Trees as t
 use Rattle.wac_parser_refusals.specs.declared.error.Error.{Error}
+use Rattle.wac_parser_refusals.specs.declared.error.Error.TheVariants as error
 use Rattle.wac_parser_refusals.specs.Causes.{Cause, Fault}
 use Rattle.wac_parser_refusals.specs.Views.{alike_fault, anywhere, at_place, cause_of}
 use Rattle.wac_parser_declare.specs.Packages.{Content}
@@ -82,6 +84,16 @@ TellsAnywhere g options e = (at : Places) → TellsFirst g options at (fault_in 
 
 abbrev pub RefusesResolved : Graph → Places → EncodeOptions → Error → Type 0
 RefusesResolved g at options e = TellsFirst g options at (cause_of e)
+
+-- where imports of a graph do not merge, the source of its refusal tells how they are apart
+abbrev pub HasSource : Graph → EncodeError → Type 0
+HasSource g (EncodeError.ImportTypeMergeConflict n first second source) = TellsConflictIn g source
+HasSource g e = Unit {0}
+
+-- and so does that of the document's
+abbrev pub TellsSource : Graph → Error → Type 0
+TellsSource g (error.InstantiationArgMergeFailure name span instantiation source) = TellsConflictIn g source
+TellsSource g e = Unit {0}
 
 -- ---- where nothing is refused
 

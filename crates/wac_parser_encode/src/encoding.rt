@@ -9,7 +9,7 @@ ghost use Rattle.wac_parser_refusals.specs.Views.{cause_of};
 ghost use Rattle.wac_parser_resolve.specs.Resolved.{Places, graph_of, places_of};
 ghost use Rattle.wac_parser_encode.specs.Processing.{IsProcessed};
 ghost use Rattle.wac_parser_encode.specs.Meaning.{HasResolvedWorld, ImportsResolved, MeansResolved};
-ghost use Rattle.wac_parser_encode.specs.Refused.{CanBeEncoded, RefusesResolved, TellsAnywhere, fault_in};
+ghost use Rattle.wac_parser_encode.specs.Refused.{CanBeEncoded, HasSource, RefusesResolved, TellsAnywhere, TellsSource, fault_in};
 
 use std::alloc::{AllocError, Global};
 use wac_graph_bytes::Processor;
@@ -26,7 +26,8 @@ const VERSION: &str = "0.11.0";
 /// The document's fault that a refusal of its graph is. No graph has a cycle.
 fn fault_of<D>(resolution: &Resolved<'_, D>, fault: EncodeError) -> Error
     requires { IsNoCycle fault }
-    ensures { cause_of result ≡ fault_in (places_of resolution.now) fault }
+    ensures fault { cause_of result ≡ fault_in (places_of resolution.now) fault }
+    ensures source { (g : Graph) → HasSource g fault → TellsSource g result }
 {
     match fault {
         EncodeError::ImplicitImportConflict {
@@ -100,6 +101,7 @@ fn encoded_bytes(graph: &CompositionGraph, options: EncodeOptions) -> Result<Vec
     ensures free { OnOk result (CanBeEncoded graph.now options) }
     ensures acyclic { IfErr result IsNoCycle }
     ensures refused { IfErr result (TellsAnywhere graph.now options) }
+    ensures source { IfErr result (HasSource graph.now) }
 {
     graph.see_sound();
     graph.types().see_acyclic();
@@ -125,6 +127,7 @@ fn encoded_world(
     ensures free { OnOk result (CanBeEncoded graph.now options) }
     ensures acyclic { IfErr result IsNoCycle }
     ensures refused { IfErr result (TellsAnywhere graph.now options) }
+    ensures source { IfErr result (HasSource graph.now) }
 {
     graph.see_sound();
     graph.types().see_acyclic();
@@ -149,7 +152,8 @@ pub trait EncodeResolution {
         ensures imports { IfOk result (λ bytes. MeansImported (graph self.now) options bytes.items) }
         ensures imported { IfOk result (λ bytes. ImportsResolved (graph self.now) options bytes.items) }
         ensures free { OnOk result (CanBeEncoded (graph self.now) options) }
-        ensures refused { IfErr result (RefusesResolved (graph self.now) (places self.now) options) };
+        ensures refused { IfErr result (RefusesResolved (graph self.now) (places self.now) options) }
+        ensures source { IfErr result (TellsSource (graph self.now)) };
 
     /// The component of the graph, and the world that is true of it, in a collection of the second number. The first is
     /// that of the collection in which imports are merged.
@@ -162,7 +166,8 @@ pub trait EncodeResolution {
         ensures world { IfOk result (λ e. HasTrueWorld (graph self.now) e.types e.world) }
         ensures resolved { IfOk result (λ e. HasResolvedWorld (graph self.now) e.types e.world) }
         ensures free { OnOk result (CanBeEncoded (graph self.now) options) }
-        ensures refused { IfErr result (RefusesResolved (graph self.now) (places self.now) options) };
+        ensures refused { IfErr result (RefusesResolved (graph self.now) (places self.now) options) }
+        ensures source { IfErr result (TellsSource (graph self.now)) };
 }
 
 impl<'d, D> EncodeResolution for Resolved<'d, D> {

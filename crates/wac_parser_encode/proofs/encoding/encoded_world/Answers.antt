@@ -1,7 +1,7 @@
 use Rattle.std.proofs.Common.{subst}
 use Rattle.wac_types_base.specs.Collection.{IsAcyclic}
 use Rattle.wac_parser_encode.proofs.Meaning.{all_processed, all_worlds, imports_processed}
-use Rattle.wac_parser_encode.proofs.Refused.{memory_refused, refuses_processed, free_processed}
+use Rattle.wac_parser_encode.proofs.Refused.{sources_told, memory_refused, refuses_processed, free_processed}
 use Rattle.wac_parser_encode.proofs.encoding.encoded_world.Goals as goal
 
 pub returns-in-Ok-clause-ascribed : goal.returns-in-Ok-clause-ascribed
@@ -26,3 +26,6 @@ returns-in-Ok-clause-refused c =
 
 pub returns-in-Err-clause-refused : goal.returns-in-Err-clause-refused
 returns-in-Err-clause-refused c = memory_refused c.args.graph.now c.args.options
+
+pub returns-in-Ok-clause-source : goal.returns-in-Ok-clause-source
+returns-in-Ok-clause-source c = sources_told c.args.graph.now c.in-Ok.options c.encode_world.result c.encode_world.ensures.refused
