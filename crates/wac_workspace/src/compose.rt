@@ -148,7 +148,6 @@ fn test_target(
 }
 
 /// The component of a resolved document, which meets its target of this name.
-#[tactic(auto, using(crate::proofs::Resolved::target_unmet))]
 fn encode_resolved<'d, D: Drop>(
     resolution: Resolved<'d, D>,
     alloc: Global,
