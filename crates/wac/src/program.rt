@@ -3,7 +3,7 @@
 ghost use Rattle.std.specs.Prelude.{◌≡◌, ◌≢◌, ◌≤◌, ◌+◌, ◌⊎◌, ◌↔◌, ◌++◌, List, [], ◌∷◌, length, codes, map, IsSome, IfSome, IfOk, IfErr, OnOk, string_bytes};
 ghost use Rattle.std.specs.Fmt.{decimal};
 ghost use Rattle.std.specs.Io.KnownBytes.{Appends};
-ghost use Rattle.wac_streams.specs.Calls.{CallsAtMost, FailedOnce};
+ghost use Rattle.wac_streams.specs.Calls.{AppendsPrefix, CallsAtMost, FailedOnce};
 ghost use Rattle.wac_types_base.specs.Entries.{Name};
 ghost use Rattle.wac_workspace.specs.declared.errors.StreamError.{StreamError as Unread};
 ghost use Rattle.wac_workspace.specs.Reading.{HasTooMany, ToEnd};
@@ -121,6 +121,7 @@ fn text_at<F: Files, R: ByteSource>(
 ) -> Result<String, Stop>
     ensures text { IfOk result
         (λ text. IsTextAt (R.remaining input.old) (R.remaining input.new) (F.stored files.now) path.now (string_bytes text)) }
+    ensures unread { path.now ≢ codes "-" → input.new ≡ input.old }
     ensures few_calls { CallsAtMost (R.calls input.old) (R.calls input.new) (MAX_SOURCE_LENGTH + 1) }
     ensures refused { IfErr result (StopsFor (HasNoTextAt (R.remaining input.old) (R.remaining input.new)
         (R.calls input.old) (R.calls input.new) (F.stored files.now) path.now)) }
@@ -144,6 +145,7 @@ fn done<F: Files, R: ByteSource, O: ByteSink>(
     ensures done { OnOk result (DoesAt (word_of command) (R.remaining input.old) (R.remaining input.new) path.now
         (outside (F.stored files.old) (F.failures files.old) (O.contents out.old) (O.calls out.old))
         (outside (F.stored files.new) (F.failures files.new) (O.contents out.new) (O.calls out.new))) }
+    ensures unread { path.now ≢ codes "-" → input.new ≡ input.old }
     ensures few_calls { CallsAtMost (R.calls input.old) (R.calls input.new) (MAX_SOURCE_LENGTH + 1) }
     ensures refused { IfErr result (StopsAt (word_of command) (R.remaining input.old) (R.remaining input.new)
         (R.calls input.old) (R.calls input.new) path.now
@@ -217,6 +219,7 @@ fn tell<E: ByteSink>(alloc: Global, err: &mut E, stop: Stop)
 fn misused<E: ByteSink>(err: &mut E) -> u8
     ensures status { (result ≡ MISUSED) ⊎ ((result ≡ REFUSED) × FailedOnce (E.calls err.old) (E.calls err.new)) }
     ensures usage { result ≡ MISUSED → Appends (E.contents err.old) (E.contents err.new) usage }
+    ensures front { result ≡ REFUSED → AppendsPrefix (E.contents err.old) (E.contents err.new) usage }
 {
     match put(err, USAGE) {
         Ok(()) => MISUSED,
@@ -239,7 +242,12 @@ pub fn run<F: Files, R: ByteSource, O: ByteSink, E: ByteSink>(
     ensures misused { (Asks (map (λ word. word.now) words.now) → ⊥)
         → (result ≡ 2) ⊎ ((result ≡ 1) × FailedOnce (E.calls err.old) (E.calls err.new)) }
     ensures usage { result ≡ 2 → Appends (E.contents err.old) (E.contents err.new) usage }
-    ensures idle { result ≡ 2 → (input.new ≡ input.old) × (files.new ≡ files.old) × (out.new ≡ out.old) }
+    ensures front { (Asks (map (λ word. word.now) words.now) → ⊥) → result ≡ 1
+        → AppendsPrefix (E.contents err.old) (E.contents err.new) usage }
+    ensures idle { (Asks (map (λ word. word.now) words.now) → ⊥)
+        → (input.new ≡ input.old) × (files.new ≡ files.old) × (out.new ≡ out.old) }
+    ensures unread { (word path : Name) → map (λ word. word.now) words.now ≡ word ∷ path ∷ [] → path ≢ codes "-"
+        → input.new ≡ input.old }
     ensures quiet { result ≡ 0 → err.new ≡ err.old }
     ensures done { result ≡ 0 → Runs (map (λ word. word.now) words.now) (R.remaining input.old) (R.remaining input.new)
         (outside (F.stored files.old) (F.failures files.old) (O.contents out.old) (O.calls out.old))
