@@ -1,6 +1,10 @@
 //! Rows of runs of the program: what is printed to the letter, or the wirings of the components that are printed.
+mod ends;
 mod files;
 mod manifests;
+mod plugging;
+mod refusals;
+mod resolving;
 mod runs;
 mod steps;
 mod wirings;

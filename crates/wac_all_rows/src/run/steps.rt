@@ -1,7 +1,12 @@
 //! Steps of a workspace, one a line, each told by a line:
-//! `first NUMBER` (a new workspace), `add KEY DIGITS ITEMS` (a component of these bytes and a world of these items),
-//! `compose TEXT`, `import TEXT` (with packages imported), `get NAME`, `packages` and `number`.
+//! `first NUMBER` (a new workspace), `add KEY DIGITS ITEMS` (a component of these bytes and a world of these items, or the world
+//! `w` of this document), `compose TEXT`, `import TEXT` (with packages imported), `resolve TEXT` (the wiring of the component
+//! that the document's resolution is encoded to), `encode TEXT` (its bytes), `uses TEXT` (the packages of its graph), `spell NAME
+//! SOCKET PLUG ..` (the text of plugging), `plug NAME SOCKET PLUG` (its wiring), `get NAME`, `packages` and `number`.
 
+use crate::run::plugging::{tell_plugged, tell_spelled};
+use crate::run::refusals::tell_uncomposed;
+use crate::run::resolving::{tell_encoded, tell_resolved, tell_uses};
 use semver::Version;
 use std::alloc::Global;
 use wac::{DeclareDocument, EncodeOptions, Workspace, declared_world};
@@ -75,9 +80,13 @@ fn add_package(workspace: &mut Workspace, told: &mut Told, key: &str, digits: &s
 fn add(workspace: &mut Workspace, told: &mut Told, words: &mut Words<'_>) {
     let key = words.take();
     let digits = words.take();
+    let items = words.rest();
+    if items.starts_with("package ") {
+        return add_package(workspace, told, key, digits, items);
+    }
     let mut source = Told::new(told.alloc());
     source.push("package w:w; world w { ");
-    source.push(words.rest());
+    source.push(items);
     source.push(" }");
     add_package(workspace, told, key, digits, source.text());
 }
@@ -102,7 +111,7 @@ fn compose(workspace: &mut Workspace, told: &mut Told, source: &str, imports: bo
                 told.show_bytes(output.bytes.as_slice());
             }
         }
-        Err(fault) => told.show(&fault),
+        Err(fault) => tell_uncomposed(told, &fault),
     }
 }
 
@@ -137,6 +146,11 @@ fn tell_step(workspace: &mut Workspace, told: &mut Told, words: &mut Words<'_>) 
         "add" => add(workspace, told, words),
         "compose" => compose(workspace, told, words.rest(), false),
         "import" => compose(workspace, told, words.rest(), true),
+        "resolve" => tell_resolved(workspace, told, words.rest()),
+        "encode" => tell_encoded(workspace, told, words.rest()),
+        "uses" => tell_uses(workspace, told, words.rest()),
+        "spell" => tell_spelled(workspace, told, words),
+        "plug" => tell_plugged(workspace, told, words),
         "get" => tell_package(workspace, told, words.rest()),
         "packages" => tell_packages(workspace, told),
         "number" => told.show(&workspace.next_number()),

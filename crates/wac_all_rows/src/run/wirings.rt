@@ -1,8 +1,7 @@
 //! What a manifest comes to: for each output its name and its wiring, read from its bytes, then what is told of a refusal.
 
-use crate::run::files::files_of;
+use crate::run::ends::Ends;
 use crate::run::manifests::tell_manifest;
-use crate::run::runs::run_program;
 use std::alloc::{AllocError, Global};
 use wac::MemoryFiles;
 use wac::manifest::{BytesData, Component, ComposeManifest, PlugManifest};
@@ -65,7 +64,7 @@ fn leaves_of(words: &mut Words<'_>, manifest: &str, files: &MemoryFiles) -> Vec<
 }
 
 /// Tells the wiring of a component.
-fn tell_wiring(told: &mut Told, bytes: &[u8], leaves: &[Leaf]) {
+pub(crate) fn tell_wiring(told: &mut Told, bytes: &[u8], leaves: &[Leaf]) {
     let mut text = String::new(told.alloc());
     let answer = tell(told.alloc(), &mut text, bytes, leaves);
     told.push(text.as_str());
@@ -100,14 +99,14 @@ pub(crate) fn tell_wirings(told: &mut Told, row: &Row<'_>) {
     let mut manifest = Told::new(told.alloc());
     let word = tell_manifest(&mut manifest, row);
     let mut words = Words::new(told.alloc(), "");
-    let mut files = files_of(told, row);
-    let leaves = leaves_of(&mut words, manifest.text(), &files);
-    let printed = run_program(told.alloc(), &[word, "-"], manifest.text(), &mut files);
+    let mut ends = Ends::new(told, row, manifest.text());
+    let leaves = leaves_of(&mut words, manifest.text(), ends.files());
+    let _ = ends.run(told.alloc(), &[word, "-"]);
     let mut lines = Told::new(told.alloc());
-    lines.push_bytes(&printed.out);
+    lines.push_bytes(ends.printed());
     for line in lines.text().lines() {
         tell_line(told, line, &leaves);
     }
-    told.push_bytes(&printed.err);
+    told.push_bytes(ends.told());
     told.push(words.fault());
 }
