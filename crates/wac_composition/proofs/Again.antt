@@ -484,7 +484,8 @@ module _ (p : Asked → Bool) where
       go true e = all_passed xs ys a e
       go false e = all_failed xs (a ∷ ys) a m e ∙ sym (all_failed xs ys a m e)
 
-family_again : (before more : List Asked) (a : Asked) → Among a before → in_family (before ++ a ∷ more) ≡ in_family (before ++ more)
+-- all passes where one of them comes again exactly where it did
+pub family_again : (before more : List Asked) (a : Asked) → Among a before → in_family (before ++ a ∷ more) ≡ in_family (before ++ more)
 family_again before more a m = λ j. all_again (λ c. is_plain c.1) before more a m j || all_again (λ c. is_wit c.0 c.1) before more a m j
 
 family_before : (before more : List Asked) → in_family (before ++ more) ≡ true → in_family before ≡ true

@@ -1,5 +1,6 @@
 -- The bytes of entries that are finished mean the wiring of the graph.
 use Rattle.std.specs.List.{AllByRecursion, AllZip}
+use Rattle.std.specs.Prelude.{option_map}
 use Rattle.std.proofs.Common.{◌≡◌, ℕ, Bool, true, false, List, [], ◌∷◌, ◌++◌, map, Option, Some, None, IsSome, inl, inr, refl, sym, ap, subst, ◌∙◌}
 use Rattle.wac_types_base.specs.Entries.{AreDistinct, Name, names_of}
 use Rattle.wac_types_base.specs.Graph.{Among}
@@ -8,18 +9,19 @@ use Rattle.wac_types_fit.proofs.Items.{among-value_at}
 use Rattle.wac_types_names.specs.Packaged.{Packaged}
 use Rattle.wac_graph_bytes.specs.declared.value.Sort.{Sort}
 use Rattle.wac_graph_bytes.specs.declared.entry.Entry.{Entry as CodeEntry}
+use Rattle.wac_graph_bytes.specs.declared.entry.Processor.{Processor}
 use Rattle.wac_graph_bytes.specs.Entries.{Entry, entries_of}
 use Rattle.wac_graph_bytes.specs.Spelling.{component_bytes}
 use Rattle.wac_graph_bytes.specs.Typing.{Worlds, Meaning, item_tree}
 use Rattle.wac_graph_bytes.specs.Wirings.{Tag, Source, Absent, Instantiation, Wiring}
 use Rattle.wac_graph_bytes.specs.Meaning.{IsApart, IsMade, IsMadeOf, Listed, States, is_package, source_at, start, steps, wiring_of}
-use Rattle.wac_graph_bytes.specs.Views.{view}
+use Rattle.wac_graph_bytes.specs.Views.{view, processor_view}
 use Rattle.wac_graph_bytes.specs.Writing.{sections_for, sections_fit}
 use Rattle.wac_graph_bytes.proofs.Written.{sections_entries, sections_small}
 use Rattle.wac_graph_core.specs.Graph.{Graph, IsGraph, instantiated}
 use Rattle.wac_graph_asks.specs.Wirings.{asked_trees}
 use Rattle.wac_graph_encode.specs.Standing.{by_number, number_in, IsExported, IsFinished, IsInstanceOf, IsListed, StandsFor}
-use Rattle.wac_graph_encode.specs.Encoding.{as_written, tag_of, IsImportedIn, IsInstantiated, IsOfGraph, MeansGraph, StateGraph}
+use Rattle.wac_graph_encode.specs.Encoding.{as_written, tag_of, IsImportedIn, IsInstantiated, IsOfGraph, MeansGraph, StateGraph, TellsProcessor}
 use Rattle.wac_graph_encode.specs.Finished.{AreSpelled}
 use Rattle.wac_graph_encode.proofs.Sources.{IsAsked, asks_renamed, asks_weaker}
 use Rattle.wac_graph_encode.proofs.StandingWirings.{among_zip, tagged_wiring, written_wiring}
@@ -30,6 +32,15 @@ spelled_so es p ns old out none h = record {
   entries = sections_entries es p ns;
   spelled = h.0 ∙ ap (λ (t : List ℕ). t ++ component_bytes (sections_for es p ns)) none;
   fits = sections_small es p ns h.1;
+}
+
+pub tells_so : (o p : Option Processor) → o ≡ p → (es : List Entry) (ns : List (Sort × List (ℕ × Name))) (old out : List ℕ) → old ≡ []
+    → out ≡ old ++ component_bytes (sections_for es (option_map processor_view o) ns) → TellsProcessor p out
+tells_so o p same es ns old out none h = record {
+  entries = es;
+  names = ns;
+  spelled = h ∙ ap (λ (t : List ℕ). t ++ component_bytes (sections_for es (option_map processor_view o) ns)) none
+      ∙ ap (λ (q : Option Processor). component_bytes (sections_for es (option_map processor_view q) ns)) same;
 }
 
 -- ---- what is finished is whole: no name stands twice, and no package is a source

@@ -22,7 +22,7 @@ use Rattle.wac_graph_core.proofs.Items.{import_stands}
 use Rattle.wac_graph_scopes.specs.Items.{sort_of}
 use Rattle.wac_types_parts.specs.Parts.{imports_of}
 use Rattle.wac_types_parts.proofs.PartLaws.{imports_there}
-use Rattle.wac_graph_scopes.proofs.UsedLaws.{root_of}
+use Rattle.wac_types_fit.proofs.ItemKinds.{resource_is}
 
 abbrev shape_sort : Shape → Option Sort
 shape_sort (func ns a) = Some sort.Func
@@ -81,7 +81,7 @@ module _ (c : Collection) (acyclic : IsAcyclic c) where
   -- ---- each item
 
   type_is_sorted : (t : TypeKind) → Stands c (ItemKind.Ty t) → tree_sort (tree_in c (ItemKind.Ty t)) ≡ Some sort.Ty
-  type_is_sorted (TypeKind.Resource r) s = ap tree_sort ((root_of c acyclic r s).1)
+  type_is_sorted (TypeKind.Resource r) s = ap tree_sort ((resource_is c acyclic r s).1)
   type_is_sorted (TypeKind.Func i) s = ap tree_sort (unfolded.type_func c acyclic i s)
   type_is_sorted (TypeKind.Value v) s = ap tree_sort (unfolded.type_value c acyclic v s)
   type_is_sorted (TypeKind.Interface i) s = ap tree_sort (unfolded.type_interface c acyclic i s)

@@ -27,7 +27,8 @@ use Rattle.wac_types_base.proofs.Slots.{slots_own, slots_borrow, slots_primitive
 use Rattle.wac_types_base.proofs.Telling.{item_kind, kind_stated, stated_step, own_node, borrow_node, defined_node, resource_node}
 use Rattle.wac_types_fit.specs.Trees.{tree_in}
 use Rattle.wac_types_fit.proofs.Items.{value_at-among}
-use Rattle.wac_types_fit.proofs.ItemKinds.{kind_is, tree_kind}
+use Rattle.wac_types_base.proofs.Looked.{among-get}
+use Rattle.wac_types_fit.proofs.ItemKinds.{kind_is, resource_is, tree_kind}
 use Rattle.wac_types_fit.proofs.Unfolded.{type_value}
 use Rattle.wac_types_parts.specs.Parts.{IsOfInterface, IsOfWorld, IsUsedKind, used_if, interface_in}
 use Rattle.wac_types_base.specs.Parts.{identifier_in}
@@ -46,7 +47,7 @@ use Rattle.wac_writable.proofs.ValueLaws.{own_root, borrow_root, own_resource, b
 use Rattle.wac_graph_scopes.specs.Used as table
 use Rattle.wac_graph_scopes.specs.Stock.{IsTaken, IsStocked}
 use Rattle.wac_graph_scopes.specs.InstanceRefusals.{InstanceRefused, too_deep, use_refused, export_refused, inner_refused, UseRefused, IsMissing, IsMissingValue, DanglesBeside, own_beside, borrow_beside, part_beside, ExportRefused}
-use Rattle.wac_graph_scopes.proofs.UsedLaws as used
+use Rattle.wac_graph_scopes.proofs.StockLaws.{used_if_is}
 use Rattle.wac_graph_scopes.proofs.LackingLaws.{no_value_in}
 use Rattle.wac_graph_encode.proofs.CoreRefused.{module_false}
 use Rattle.wac_graph_encode.proofs.SmallerInterfaces.{smaller, interface_stands, fewer_inside, fewer_than_all}
@@ -54,20 +55,6 @@ use Rattle.wac_graph_encode.proofs.StockLaws.{node_of, compound, tree_is, place_
 use Rattle.wac_graph_encode.specs.RefusedInstances.{IsWithin, itself, exported, HasNoWorld, AllStandAround, Refused_instance_is_unwritable}
 
 -- ---- kinds
-
-used_if_is : (o : Option ItemKind) (k : ItemKind) → used_if o ≡ Some k → IsUsedKind k
-used_if_is None k e = absurd (none-some _ e)
-used_if_is (Some (ItemKind.Ty (TypeKind.Resource r))) k e = subst IsUsedKind (same_Some _ _ e) tt
-used_if_is (Some (ItemKind.Ty (TypeKind.Value r))) k e = subst IsUsedKind (same_Some _ _ e) tt
-used_if_is (Some (ItemKind.Ty (TypeKind.Func r))) k e = absurd (none-some _ e)
-used_if_is (Some (ItemKind.Ty (TypeKind.Interface r))) k e = absurd (none-some _ e)
-used_if_is (Some (ItemKind.Ty (TypeKind.World r))) k e = absurd (none-some _ e)
-used_if_is (Some (ItemKind.Ty (TypeKind.Module r))) k e = absurd (none-some _ e)
-used_if_is (Some (ItemKind.Func r)) k e = absurd (none-some _ e)
-used_if_is (Some (ItemKind.Instance r)) k e = absurd (none-some _ e)
-used_if_is (Some (ItemKind.Component r)) k e = absurd (none-some _ e)
-used_if_is (Some (ItemKind.Module r)) k e = absurd (none-some _ e)
-used_if_is (Some (ItemKind.Value r)) k e = absurd (none-some _ e)
 
 abbrev IsOfUsedKind : ItemKind → Type 0
 IsOfUsedKind k = (item_kind k ≡ IsResource) ⊎ (item_kind k ≡ IsValueType)
@@ -93,11 +80,6 @@ any_true p (y ∷ ys) x (inr m) e = ap (λ b. p y || b) (any_true p ys x m e) �
     or_right : (b : Bool) → (b || true) ≡ true
     or_right true = refl
     or_right false = refl
-
-slice_among : {X : Type 0} (xs : List X) (n : ℕ) (x : X) → slice_get xs n ≡ Some x → Among x xs
-slice_among [] n x e = absurd (none-some _ e)
-slice_among (y ∷ ys) zero x e = inl (sym (same_Some _ _ e))
-slice_among (y ∷ ys) (suc n) x e = inr (slice_among ys n x e)
 
 abbrev item_at : Collection → Name × UsedType → Option ItemKind
 item_at c u = used_if (value_at (exports_in c u.1.interface) (unwrap_or u.1.name u.0))
@@ -130,7 +112,7 @@ module _ (c : Collection) (a : IsAcyclic c) (us : table.Used) (i : InterfaceId) 
       taken = all u m k e;
       is = sym (ap (λ (p : Name × Stated). p.1) (same_Some _ _ is));
       stands = export_item_stands c a u.1.interface (unwrap_or u.1.name u.0) k (used_from (value_at (exports_in c u.1.interface) (unwrap_or u.1.name u.0)) k e);
-      used = used_if_is (value_at (exports_in c u.1.interface) (unwrap_or u.1.name u.0)) k e;
+      used = (used_if_is (value_at (exports_in c u.1.interface) (unwrap_or u.1.name u.0)) k e).1;
     }
 
     taken_item : (n : Name) (y : Stated) → Among (n, y) h.used → TakenItem y
@@ -144,7 +126,7 @@ module _ (c : Collection) (a : IsAcyclic c) (us : table.Used) (i : InterfaceId) 
         stated_are (u ∷ us) = ap (λ l. record { name = u.0; there = u.1.name; interface = stated_of c (ItemKind.Instance u.1.interface) } ∷ l) (stated_are us)
 
     resource_tree : (r : ResourceId) → Stands c (ItemKind.Ty (TypeKind.Resource r)) → tree_in c (ItemKind.Ty (TypeKind.Resource r)) ≡ rigid (resource (root_name (stated_of c (ItemKind.Ty (TypeKind.Resource r))))) end
-    resource_tree r st = let t = used.root_of c a r st in t.1 ∙ ap (λ n. rigid (resource n) end) (sym (root_named c a r t.0 st (λ z. t.1)))
+    resource_tree r st = let t = resource_is c a r st in t.1 ∙ ap (λ n. rigid (resource n) end) (sym (root_named c a r t.0 st (λ z. t.1)))
 
     -- a resource among them, by its kind
     by_resource : (P : ItemKind → Type 0) (k : ItemKind) → is_resource (kind_of (stated_of c k)) ≡ true → ((r : ResourceId) → P (ItemKind.Ty (TypeKind.Resource r))) → P k
@@ -374,7 +356,7 @@ module _ (c : Collection) (a : IsAcyclic c) (us : table.Used) where
       let e = f.2.0 in
       let own : identifier_in (interface_in c e.1.interface) ≡ None = ap (λ j. identifier_in (interface_in c j)) (sym f.2.2.interface) ∙ f.3.2 in
       let lacks : is_unnamed c e.1.interface ≡ true = ap (λ o. is_none o || uses_unnamed c e.1.interface) (identifier_is c a e.1.interface ∙ own) in
-      used_by c a id ∙ any_true (unnamed_use c) (uses_in c id) e (slice_among (uses_in c id) f.0 e f.2.1) lacks
+      used_by c a id ∙ any_true (unnamed_use c) (uses_in c id) e (among-get (uses_in c id) f.0 e f.2.1) lacks
 
   refused_fails : (outer : Bool) (depth : ℕ) (id : InterfaceId) → InstanceRefused c us depth id → depth + smaller c id < 2 ^ 64 - 1 → Stands c (ItemKind.Instance id) → HasNoWorld c id → AllStandAround c us id
       → ItemsFail outer (uses_of (stated_of c (ItemKind.Instance id))) (exports_of (stated_of c (ItemKind.Instance id)))

@@ -20,7 +20,7 @@ use Rattle.wac_graph_bytes.specs.declared.value.Sort.{Sort}
 use Rattle.wac_graph_bytes.specs.declared.value.Sort.TheVariants as sort
 use Rattle.wac_graph_bytes.specs.Typing.{export_named, as_func, as_sort, item_of_sort, type_in}
 use Rattle.wac_graph_scopes.proofs.FieldLaws.{same_look}
-use Rattle.wac_graph_scopes.proofs.UsedLaws.{root_of}
+use Rattle.wac_types_fit.proofs.ItemKinds.{resource_is}
 use Rattle.wac_composition.specs.Classes.{is_instance_kind}
 use Rattle.wac_composition.specs.Sound.{fields_of}
 use Rattle.wac_composition.proofs.KeptFits.{fields_looked, instance_tree}
@@ -76,7 +76,7 @@ module _ (c : Collection) (acyclic : IsAcyclic c) where
 
   type_sorts : (t : TypeKind) (u : Tree) → Stands c (ItemKind.Ty t) → Fits u (tree_in c (ItemKind.Ty t)) → Sorts sort.Ty u
   type_sorts (TypeKind.Resource r) u stands f =
-      let n = root_of c acyclic r stands in
+      let n = resource_is c acyclic r stands in
       (_, ap type_in (only_rigid u _ _ (subst (Fits u) n.1 f)))
   type_sorts (TypeKind.Func i) u stands f = by_type u _ _ (unfolded.type_func c acyclic i stands) f
   type_sorts (TypeKind.Value v) u stands f = by_type u _ _ (unfolded.type_value c acyclic v stands) f

@@ -10,14 +10,16 @@ use Rattle.wac_types_base.specs.Stated.{stated_of}
 use Rattle.wac_types_base.specs.Tree.{Tree, tree, tree_of}
 use Rattle.wac_types_names.specs.Packaged.{Packaged}
 use Rattle.wac_types_names.specs.Keys.{package_key}
+use Rattle.wac_graph_bytes.specs.declared.entry.Processor.{Processor}
 use Rattle.wac_graph_bytes.specs.declared.entry.Entry.{Entry as CodeEntry}
+use Rattle.wac_graph_bytes.specs.declared.value.Sort.{Sort}
 use Rattle.wac_graph_bytes.specs.Entries.{Entry, Nested, Section, entries_of}
-use Rattle.wac_graph_bytes.specs.Views.{view}
+use Rattle.wac_graph_bytes.specs.Views.{view, processor_view}
 use Rattle.wac_graph_bytes.specs.Spelling.{component_bytes}
 use Rattle.wac_graph_bytes.specs.Wirings.{Tag, OfBytes, OfDependency, Instantiation, Wiring, Same}
 use Rattle.wac_graph_bytes.specs.Typing.{Worlds}
 use Rattle.wac_graph_bytes.specs.Meaning.{Means, States}
-use Rattle.wac_graph_bytes.specs.Writing.{entry_fits}
+use Rattle.wac_graph_bytes.specs.Writing.{entry_fits, sections_for}
 use Rattle.wac_graph_core.specs.declared.ids.PackageId.{PackageId}
 use Rattle.wac_graph_core.specs.Graph.{Graph, package_of, instantiated}
 use Rattle.wac_composition.specs.Conflicts.{dependency_name}
@@ -133,6 +135,13 @@ MeansWiring define g bytes = (worlds : Worlds) → AreTrueOf define g worlds →
 pub record IsComposed (define : Bool) (g : Graph) (bytes : List ℕ) : Type 0 where
   pub nests : NestsPackages define g bytes
   pub means : MeansWiring define g bytes
+
+-- The component says of itself that this processor has written it, where one is given, and of no other: behind the sections of
+-- its entries and of names for debuggers.
+pub record TellsProcessor (processor : Option Processor) (bytes : List ℕ) : Type 0 where
+  pub entries : List Entry
+  pub names : List (Sort × List (ℕ × Name))
+  pub spelled : bytes ≡ component_bytes (sections_for entries (option_map processor_view processor) names)
 
 -- a number in one of the entries passes 32 bits
 abbrev pub HasUnfit : List Entry → Type 0

@@ -12,7 +12,7 @@ ghost use Rattle.wac_graph_causes.specs.Acyclic.{IsNoCycle};
 ghost use Rattle.wac_graph_causes.specs.Circling.{PackagesStand};
 ghost use Rattle.wac_graph_causes.specs.Unwritable.{alias_cause};
 ghost use Rattle.wac_graph_encode.specs.Beginning.{IsToBegin};
-ghost use Rattle.wac_graph_encode.specs.Encoding.{HasTrueWorld, HasUnfit};
+ghost use Rattle.wac_graph_encode.specs.Encoding.{HasTrueWorld, HasUnfit, TellsProcessor};
 ghost use Rattle.wac_graph_encode.specs.Worlds.{IsToHandOut};
 ghost use Rattle.wac_graph_encode.specs.Refused.{FitsProcessor, HasLargeProcessor, HasNoneAlike, HasNoneClashing, HasNoneFound, HasNoneUnwritten};
 ghost use Rattle.wac_graph_encode.specs.Refused.{IsErrorFor, IsFree, IsRefusedFor, waiting_cause};
@@ -74,6 +74,7 @@ fn bytes_of_entries(
     options: &EncodeOptions,
 ) -> Result<Vec<u8>, BytesError>
     ensures spelled { IfOk result (λ bytes. AreSpelled (map view entries.now) bytes.items) }
+    ensures processor { IfOk result (λ bytes. TellsProcessor options.now.processor bytes.items) }
     ensures unfit { FitsProcessor options.now → IfErr result (IfOfSize (HasUnfit (map view entries.now))) }
 {
     let names = names_that_fit(alloc, names)?;
@@ -91,6 +92,7 @@ fn bytes_wired(writing: Writing<'_>, wired: &mut Wired<'_>) -> Result<Vec<u8>, B
     requires all { HasAllOf writing.graph.now (names_of writing.worlds.now.entries) writing.definitions.now }
     ensures means { MeansWired writing.entry wired.old result }
     ensures nests { NestsWired writing.entry wired.old result }
+    ensures processor { IfOk result (λ bytes. TellsProcessor writing.entry.options.now.processor bytes.items) }
     ensures unfit { UnfitWired writing.entry wired.old result }
 {
     writing.graph.see_sound();
@@ -115,6 +117,7 @@ fn bytes_with_uses(
     requires all { HasAllOf graph.now (names_of asked.now.packages.entries) definitions.now }
     ensures means { MeansAsked graph.now asked.now outers.now definitions.now options.now result }
     ensures nests { NestsSo options.now.define_components graph.now (names_of asked.now.packages.entries) result }
+    ensures processor { IfOk result (λ bytes. TellsProcessor options.now.processor bytes.items) }
     ensures unfit { UnfitAsked graph.now asked.now outers.now definitions.now options.now result }
 {
     let all = Importing {
@@ -147,6 +150,7 @@ fn bytes_of(
     requires all { HasAllOf graph.now (names_of asked.now.packages.entries) definitions.now }
     ensures means { MeansAsked graph.now asked.now outers.now definitions.now options.now result }
     ensures nests { NestsSo options.now.define_components graph.now (names_of asked.now.packages.entries) result }
+    ensures processor { IfOk result (λ bytes. TellsProcessor options.now.processor bytes.items) }
     ensures unfit { UnfitAsked graph.now asked.now outers.now definitions.now options.now result }
 {
     let uses = uses_of_instances(graph, asked)?;
@@ -183,6 +187,7 @@ fn bytes_asked(
     requires aliases { alias_cause graph.now ≡ None }
     ensures means { IfOk result (λ p. PreparedMeans graph.now asked.old outers.now options.now p.0.items) }
     ensures imports { IfOk result (λ p. PreparedImports graph.now asked.old outers.now options.now p.0.items) }
+    ensures processor { IfOk result (λ p. TellsProcessor options.now.processor p.0.items) }
     ensures waits { OnOk result (PreparedWaits graph.now asked.old outers.now options.now) }
     ensures apart { OnOk result (IsPrepared graph.now asked.old outers.now → HasNoneAlike options.now graph.now) }
     ensures ready { IfOk result (λ p. PreparedHands graph.now asked.old asked.new outers.now p.1.items) }
@@ -226,6 +231,7 @@ fn encoded_asked(
     requires aliases { alias_cause graph.now ≡ None }
     ensures means { IfOk result (λ e. MeansNested graph.now options.now e.bytes.items) }
     ensures imports { IfOk result (λ e. MeansImported graph.now options.now e.bytes.items) }
+    ensures processor { IfOk result (λ e. TellsProcessor options.now.processor e.bytes.items) }
     ensures waits { OnOk result (waiting_cause options.now graph.now ≡ None) }
     ensures apart { OnOk result (HasNoneAlike options.now graph.now) }
     ensures refused { IfErr result (λ e. HasNoneFound options.now graph.now → IsRefusedFor options.now graph.now e) }
@@ -269,6 +275,7 @@ fn encoded(
 ) -> Result<Encoded, Refusal>
     ensures means { IfOk result (λ e. MeansNested graph.now options.now e.bytes.items) }
     ensures imports { IfOk result (λ e. MeansImported graph.now options.now e.bytes.items) }
+    ensures processor { IfOk result (λ e. TellsProcessor options.now.processor e.bytes.items) }
     ensures free { OnOk result (IsFree options.now graph.now) }
     ensures refused { IfErr result (IsRefusedFor options.now graph.now) }
     ensures number { IfOk result (λ e. e.types.number ≡ numbers.1) }
@@ -297,6 +304,7 @@ pub trait EncodeGraph {
     fn encode(&self, options: EncodeOptions) -> Result<Vec<u8>, EncodeError>
         ensures means { IfOk result (λ bytes. MeansNested (graph self.now) options bytes.items) }
         ensures imports { IfOk result (λ bytes. MeansImported (graph self.now) options bytes.items) }
+        ensures processor { IfOk result (λ bytes. TellsProcessor options.processor bytes.items) }
         ensures free { OnOk result (IsFree options (graph self.now)) }
         ensures refused { IfErr result (IsErrorFor options (graph self.now)) }
         ensures acyclic { IfErr result IsNoCycle };
@@ -310,6 +318,7 @@ pub trait EncodeGraph {
     ) -> Result<Encoded, EncodeError>
         ensures means { IfOk result (λ e. MeansNested (graph self.now) options e.bytes.items) }
         ensures imports { IfOk result (λ e. MeansImported (graph self.now) options e.bytes.items) }
+        ensures processor { IfOk result (λ e. TellsProcessor options.processor e.bytes.items) }
         ensures free { OnOk result (IsFree options (graph self.now)) }
         ensures refused { IfErr result (IsErrorFor options (graph self.now)) }
         ensures number { IfOk result (λ e. e.types.number ≡ numbers.1) }

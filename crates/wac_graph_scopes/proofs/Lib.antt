@@ -22,3 +22,4 @@ pub mod RootLaws
 pub mod FoundLaws
 pub mod WritingLaws
 pub mod ImportLaws
+pub mod ImportRefusals

@@ -205,3 +205,6 @@ world_unsaid c (ItemKind.Func j) id s u e is = absurd is
 world_unsaid c (ItemKind.Instance j) id s u e is = absurd is
 world_unsaid c (ItemKind.Module j) id s u e is = absurd is
 world_unsaid c (ItemKind.Value j) id s u e is = absurd is
+
+pub memory_apart : WriteError.Memory ≡ WriteError.Unwritable → ⊥
+memory_apart e = cc e

@@ -126,29 +126,29 @@ own_next c id s u keeps at before now m lt n k is f = elim (cases_eq m at) [
 
 -- ---- what is taken stands
 
+used_kind_is : (j k : ItemKind) → used_kind j ≡ Some k → (j ≡ k) × IsUsedKind k
+used_kind_is (ItemKind.Ty (TypeKind.Resource r)) k e = let same : ItemKind.Ty (TypeKind.Resource r) ≡ k = cc e in (same, subst IsUsedKind same tt)
+used_kind_is (ItemKind.Ty (TypeKind.Value v)) k e = let same : ItemKind.Ty (TypeKind.Value v) ≡ k = cc e in (same, subst IsUsedKind same tt)
+used_kind_is (ItemKind.Ty (TypeKind.Func f)) k e = absurd (cc e)
+used_kind_is (ItemKind.Ty (TypeKind.Interface f)) k e = absurd (cc e)
+used_kind_is (ItemKind.Ty (TypeKind.World f)) k e = absurd (cc e)
+used_kind_is (ItemKind.Ty (TypeKind.Module f)) k e = absurd (cc e)
+used_kind_is (ItemKind.Func f) k e = absurd (cc e)
+used_kind_is (ItemKind.Instance f) k e = absurd (cc e)
+used_kind_is (ItemKind.Component f) k e = absurd (cc e)
+used_kind_is (ItemKind.Module f) k e = absurd (cc e)
+used_kind_is (ItemKind.Value f) k e = absurd (cc e)
+
+pub used_if_is : (o : Option ItemKind) (k : ItemKind) → used_if o ≡ Some k → (o ≡ Some k) × IsUsedKind k
+used_if_is None k e = absurd (cc e)
+used_if_is (Some j) k e = let p = used_kind_is j k e in (ap Some p.0, p.1)
+
 module _ (c : Collection) (acyclic : IsAcyclic c) where
   export_there : (id : InterfaceId) (n : Name) (k : ItemKind) → value_at (exports_of c id) n ≡ Some k → Stands c k
   export_there id n k e = elim (stands_or_not c (ItemKind.Instance id)) [
     | inl s ↦ let f = interface_found c id s in export_stands c id acyclic f.value s f.at f.own n k (ap (λ (l : List (Name × ItemKind)). value_at l n) (sym (exports_there c id f.value f.at f.own)) ∙ e)
     | inr none ↦ absurd (cc (e, ap (λ (l : List (Name × ItemKind)). value_at l n) (exports_missing c id none)))
   ]
-
-  used_kind_is : (j k : ItemKind) → used_kind j ≡ Some k → (j ≡ k) × IsUsedKind k
-  used_kind_is (ItemKind.Ty (TypeKind.Resource r)) k e = let same : ItemKind.Ty (TypeKind.Resource r) ≡ k = cc e in (same, subst IsUsedKind same tt)
-  used_kind_is (ItemKind.Ty (TypeKind.Value v)) k e = let same : ItemKind.Ty (TypeKind.Value v) ≡ k = cc e in (same, subst IsUsedKind same tt)
-  used_kind_is (ItemKind.Ty (TypeKind.Func f)) k e = absurd (cc e)
-  used_kind_is (ItemKind.Ty (TypeKind.Interface f)) k e = absurd (cc e)
-  used_kind_is (ItemKind.Ty (TypeKind.World f)) k e = absurd (cc e)
-  used_kind_is (ItemKind.Ty (TypeKind.Module f)) k e = absurd (cc e)
-  used_kind_is (ItemKind.Func f) k e = absurd (cc e)
-  used_kind_is (ItemKind.Instance f) k e = absurd (cc e)
-  used_kind_is (ItemKind.Component f) k e = absurd (cc e)
-  used_kind_is (ItemKind.Module f) k e = absurd (cc e)
-  used_kind_is (ItemKind.Value f) k e = absurd (cc e)
-
-  used_if_is : (o : Option ItemKind) (k : ItemKind) → used_if o ≡ Some k → (o ≡ Some k) × IsUsedKind k
-  used_if_is None k e = absurd (cc e)
-  used_if_is (Some j) k e = let p = used_kind_is j k e in (ap Some p.0, p.1)
 
   taken_there : (u : Use) (item : ItemKind) → taken_in c u ≡ Some item → Stands c item × IsUsedKind item
   taken_there u item e =

@@ -23,7 +23,7 @@ use Rattle.wac_types_base.proofs.Telling.{item_kind, resource_source}
 use Rattle.wac_types_fit.specs.Trees.{tree_in, Fit}
 use Rattle.wac_types_fit.specs.Checking.{IsFlat}
 use Rattle.wac_types_fit.proofs.Unfolded.{root_tree, source_tree, type_value, primitive_tree, own_tree, borrow_tree}
-use Rattle.wac_types_fit.proofs.ItemKinds.{tree_kind, is_type, fits_flat, flat_is, kind_is, flat_fits}
+use Rattle.wac_types_fit.proofs.ItemKinds.{resource_is, tree_kind, is_type, fits_flat, flat_is, kind_is, flat_fits}
 use Rattle.wac_types_base.specs.declared.item.PrimitiveType.{PrimitiveType}
 use Rattle.wac_graph_bytes.specs.declared.value.Sort.TheVariants as sort
 use Rattle.wac_graph_bytes.specs.declared.value.ValueType.TheVariants.{Primitive, Index}
@@ -45,28 +45,9 @@ use Rattle.wac_types_base.specs.Collection.{defined_entry}
 -- ---- trees of types
 
 module _ (c : Collection) (acyclic : IsAcyclic c) where
-  root_by_alias : (r : ResourceId) (x : Resource) (o : Option ResourceAlias) → slice_get c.resources r.index ≡ Some x → r.collection ≡ c.number → x.alias ≡ o
-      → ((t : ResourceId) → Stands c (ItemKind.Ty (TypeKind.Resource t)) → size_of c (ItemKind.Ty (TypeKind.Resource t)) < size_of c (ItemKind.Ty (TypeKind.Resource r)) → (n : Name) × (tree_in c (ItemKind.Ty (TypeKind.Resource t)) ≡ rigid (resource n) end))
-      → (n : Name) × (tree_in c (ItemKind.Ty (TypeKind.Resource r)) ≡ rigid (resource n) end)
-  root_by_alias r x None at own is h = (x.name, root_tree c acyclic r x at own is)
-  root_by_alias r x (Some b) at own is h =
-      let s = resource_source c acyclic r x b at own is in
-      let i = h b.source s.0 s.1 in
-      (i.0, source_tree c acyclic r x b at own is ∙ i.1)
-
-  root_by_size : (n : ℕ) (r : ResourceId) → size_of c (ItemKind.Ty (TypeKind.Resource r)) < n → Stands c (ItemKind.Ty (TypeKind.Resource r)) → (n : Name) × (tree_in c (ItemKind.Ty (TypeKind.Resource r)) ≡ rigid (resource n) end)
-  root_by_size zero r lt s = absurd (omega arith)
-  root_by_size (suc n) r lt s =
-      let f = resource_found c r s in
-      root_by_alias r f.value f.value.alias f.at f.own refl (λ t p q. root_by_size n t (omega arith) p)
-
-  -- a resource is the one at the end of its aliases
-  pub root_of : (r : ResourceId) → Stands c (ItemKind.Ty (TypeKind.Resource r)) → (n : Name) × (tree_in c (ItemKind.Ty (TypeKind.Resource r)) ≡ rigid (resource n) end)
-  root_of r s = root_by_size (suc (size_of c (ItemKind.Ty (TypeKind.Resource r)))) r (omega arith) s
-
-  -- and the type that it is, as an item
+  -- the type that a resource is, as an item
   pub resource_type : (r : ResourceId) → Stands c (ItemKind.Ty (TypeKind.Resource r)) → type_in (tree_in c (ItemKind.Ty (TypeKind.Resource r))) ≡ Some (tree_in c (ItemKind.Ty (TypeKind.Resource r)))
-  resource_type r s = let n = root_of r s in ap type_in n.1 ∙ ap Some (sym n.1)
+  resource_type r s = let n = resource_is c acyclic r s in ap type_in n.1 ∙ ap Some (sym n.1)
 
   -- the tree of a defined type that is no alias is one of a value
   pub defined_value : (d : DefinedTypeId) → Stands c (ItemKind.Value (ValueType.Defined d)) → IsNoAlias c (ValueType.Defined d)
@@ -103,7 +84,7 @@ module _ (c : Collection) (acyclic : IsAcyclic c) where
 
   -- the type that a resource or a value type is
   pub used_type : (k : ItemKind) → Stands c k → IsUsedKind k → (x : Tree) × (type_in (tree_in c k) ≡ Some x) × (item_of x ≡ tree_in c k)
-  used_type (ItemKind.Ty (TypeKind.Resource r)) s u = let n = root_of c acyclic r s in (rigid (resource n.0) end, ap type_in n.1, sym n.1)
+  used_type (ItemKind.Ty (TypeKind.Resource r)) s u = let n = resource_is c acyclic r s in (rigid (resource n.0) end, ap type_in n.1, sym n.1)
   used_type (ItemKind.Ty (TypeKind.Value v)) s u =
       let t = type_value c acyclic v s in
       (tree_in c (ItemKind.Value v), ap type_in t, value_item v (stands_typed_value c v s) ∙ sym t)

@@ -29,7 +29,7 @@ use Rattle.wac_types_base.proofs.Walking.{some_place}
 use Rattle.wac_types_fit.specs.Trees.{tree_in}
 use Rattle.wac_types_fit.proofs.Items.{Among-last, among-value_at}
 use Rattle.wac_types_fit.proofs.Unfolded.{func_tree, type_interface, instance_tree}
-use Rattle.wac_types_fit.proofs.ItemKinds.{kind_is}
+use Rattle.wac_types_fit.proofs.ItemKinds.{resource_is, kind_is}
 use Rattle.wac_graph_bytes.specs.declared.value.Sort.{Sort}
 use Rattle.wac_graph_bytes.specs.declared.value.Sort.TheVariants as sort
 use Rattle.wac_graph_bytes.specs.declared.value.Description.{Description}
@@ -51,7 +51,7 @@ use Rattle.wac_types_parts.specs.Parts.{exports_of, IsOfInterface, IsOfWorld}
 use Rattle.wac_graph_scopes.specs.Items.{IsItemScope, ItemsGo, GivesType, ExportsItem, ExportsIndex, IsTypeItem, IsNotable, IsSorted, Describes, IsTreeOf, AreTreesOf, Writing, adds_core, HasCore, GivesCore, GivesItem, MayExport, WritesSome, GrowsBy, StatesInstance, StatesComponent, HasType, described_as, HasEntry, IsNoResource}
 use Rattle.wac_graph_scopes.proofs.ScopeLaws.{Extends-one}
 use Rattle.wac_graph_scopes.proofs.ItemLaws.{ItemsGo-refl, ItemsGo-trans, types_go, export_follows}
-use Rattle.wac_graph_scopes.proofs.UsedLaws.{root_of, plain_item}
+use Rattle.wac_graph_scopes.proofs.UsedLaws.{plain_item}
 use Rattle.wac_graph_scopes.proofs.FieldLaws.{written_instance}
 use Rattle.wac_types_parts.proofs.Lists.{distinct-append}
 use Rattle.wac_types_base.proofs.Lists.{no_entries}
@@ -137,7 +137,7 @@ module _ (w : Worlds) (c : Collection) (outer : List Scope) (i : Inside) where
   pub resource_there : IsAcyclic c → (r : ResourceId) (s : ItemScope) (k : ℕ) → Stands c (ItemKind.Ty (TypeKind.Resource r)) → IsItemScope w c outer i s → type_at w (i.here ∷ outer) k ≡ Some (tree_in c (ItemKind.Ty (TypeKind.Resource r)))
       → GivesItem w c outer i (tree_in c (ItemKind.Ty (TypeKind.Resource r))) s k
   resource_there a r s k stands h e =
-      let n = root_of c a r stands in
+      let n = resource_is c a r stands in
       record { after = i; goes = ItemsGo-refl w c outer i s h; index = record { there = rigid (resource n.0) end; item = sym n.1; reads = e ∙ ap Some n.1 } }
 
   -- what is so described

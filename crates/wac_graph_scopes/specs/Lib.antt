@@ -12,3 +12,4 @@ pub mod Stock
 pub mod InstanceRefusals
 pub mod Orders
 pub mod Imports
+pub mod ImportRefusals

@@ -17,6 +17,7 @@ ghost use Rattle.wac_graph_scopes.specs.Orders.{IsOrder, SourcesFirst};
 ghost use Rattle.wac_graph_scopes.specs.ItemRefusals.{RefusedTypeApart, RefusedItem, RefusedUse};
 ghost use Rattle.wac_graph_scopes.specs.InstanceRefusals.{LacksIdentifier, UseRefused, LacksIdentifiers, RefusesInstance, RefusesOther};
 ghost use Rattle.wac_graph_scopes.specs.Imports.{all_imports, all_exports, IsUseOf, IsGivenBy, NoneWritten, IsInstanceImport, IsPlaced, GivesTaken, NotGiven, FindsSource, AddsUsed, AliasesUse, KeepsWorld, DescribesImport, DescribesThere, DescribesOther, MayDescribe};
+ghost use Rattle.wac_graph_scopes.specs.ImportRefusals.{IsGivenUnnamed, UsesUnnamed, RefusesImport, RefusesImportAt, RefusesExporting};
 ghost use Rattle.wac_graph_scopes.specs.Imports.{called_places, own_places, import_places, FindsFirst, IsImportedAs, IsFoundFor, FindsImported};
 ghost use Rattle.wac_graph_scopes.specs.Imports.{ImportsDescribed, ImportsAt, WritesImport, WritesInOrder, ExportsIndexed, BeginsWorld};
 
@@ -586,7 +587,8 @@ impl ImportScope {
         all: Importing<'_>,
         import: Item<'_>,
     ) -> Result<Option<Description>, WriteError>
-        ensures { MayDescribe all.entry import.entry self.old self.new result }
+        ensures describes { MayDescribe all.entry import.entry self.old self.new result }
+        ensures refused { IfErr result (λ e. e ≡ WriteError.Unwritable → IsGivenUnnamed all.entry import.entry) }
     {
         all.types.see_acyclic();
         let given = use_giving(alloc, all, import)?;
@@ -649,7 +651,8 @@ impl ImportScope {
         all: Importing<'_>,
         import: Item<'_>,
     ) -> Result<Option<Description>, WriteError>
-        ensures { MayDescribe all.entry import.entry self.old self.new result }
+        ensures describes { MayDescribe all.entry import.entry self.old self.new result }
+        ensures refused { IfErr result (λ e. e ≡ WriteError.Unwritable → UsesUnnamed all.entry import.entry) }
     {
         let used = self.describe_used(alloc, all, import)?;
         match used {
@@ -665,7 +668,8 @@ impl ImportScope {
         all: Importing<'_>,
         import: Item<'_>,
     ) -> Result<Option<Description>, WriteError>
-        ensures { MayDescribe all.entry import.entry self.old self.new result }
+        ensures describes { MayDescribe all.entry import.entry self.old self.new result }
+        ensures refused { IfErr result (λ e. e ≡ WriteError.Unwritable → LacksIdentifiers all.entry.types.now import.entry.kind) }
     {
         all.types.see_acyclic();
         if is_fresh(all.types, import) {
@@ -683,7 +687,8 @@ impl ImportScope {
         all: Importing<'_>,
         import: Item<'_>,
     ) -> Result<Description, WriteError>
-        ensures { DescribesImport all.entry import.entry self.old self.new result }
+        ensures describes { DescribesImport all.entry import.entry self.old self.new result }
+        ensures refused { RefusesImport all.entry import.entry self.old self.new result }
     {
         let plainly = self.describe_plainly(alloc, all, import)?;
         match plainly {
@@ -735,7 +740,8 @@ impl ImportScope {
         description: Description,
         at: usize,
     ) -> Result<(), WriteError>
-        ensures { ImportsAt all.entry import.entry description at self.old self.new result }
+        ensures imports { ImportsAt all.entry import.entry description at self.old self.new result }
+        ensures refused { IfErr result (λ e. e ≡ WriteError.Memory) }
     {
         let place = self.import(alloc, all.types, import, description)?;
         self.set_place(at, place);
@@ -750,7 +756,8 @@ impl ImportScope {
         all: Importing<'_>,
         at: usize,
     ) -> Result<(), WriteError>
-        ensures { WritesImport all.entry at self.old self.new result }
+        ensures writes { WritesImport all.entry at self.old self.new result }
+        ensures refused { RefusesImportAt all.entry (λ x. slice_get (all_imports all.entry) at ≡ Some x) self.old self.new result }
     {
         let count = import_count(all.types, all.world);
         if at >= count {
@@ -773,7 +780,8 @@ impl ImportScope {
         all: Importing<'_>,
         item: Item<'_>,
     ) -> Result<u64, WriteError>
-        ensures { ExportsIndexed all.entry item.entry self.old self.new result }
+        ensures exports { ExportsIndexed all.entry item.entry self.old self.new result }
+        ensures refused { RefusesExporting all.entry item.entry self.old self.new result }
     {
         self.prepare(alloc, all, item.kind)?;
         let around = Around {

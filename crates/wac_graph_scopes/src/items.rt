@@ -351,6 +351,9 @@ pub(crate) fn export_item(
     ensures exports { ExportsOne types.now around.entry item.entry scope.old scope.new result }
     ensures keeps { OnOk result (KeepsTypes scope.old.types scope.new.types) }
     ensures refused { RefusesExport types.now around.entry.used.now around.entry.depth item.entry.kind scope.old result }
+    ensures item { Stands types.now item.entry.kind → IfErr result
+        (λ e. e ≡ WriteError.Unwritable → RefusedItem types.now item.entry.kind scope.old scope.new WriteError.Unwritable) }
+    ensures instance { RefusesInstance types.now around.entry.used.now around.entry.depth item.entry.kind scope.old result }
 {
     types.see_acyclic();
     let description = describe(alloc, scope, types, around, item.kind)?;

@@ -21,7 +21,7 @@ use Rattle.wac_composition.specs.Conflicts.{Cause, merge_cause, merge_fails, tho
 use Rattle.wac_composition.proofs.Closures.{any_among, among_any, filter_among, among_filter, filter_same}
 use Rattle.wac_composition.proofs.OuterClasses.{class_same, within, class_itself, class_by_name}
 use Rattle.wac_composition.proofs.AskedAgain.{asked_again, filter_append, kept_again, among_more, among_fewer}
-use Rattle.wac_composition.proofs.Again.{asking_twice}
+use Rattle.wac_composition.proofs.Again.{asking_twice, family_again}
 use Rattle.wac_composition.proofs.Lists.{mapped_among}
 use Rattle.wac_composition.proofs.Against.{or_none}
 use Rattle.wac_merging.specs.Repeated.{Repeated_conflicts_no_more}
@@ -29,15 +29,6 @@ use Rattle.wac_merging.specs.Unmerged.{TellsApart, TellsUnmerged, TellsConflict,
 use Rattle.wac_merging.proofs.Wit.{all_of, of_all}
 
 -- ---- what is told of asks of which one is repeated
-
--- all pass where one of them comes again exactly where they did
-all_again : (p : Asked → Bool) (xs ys : List Asked) (a : Asked) → Among a xs → list_all p (xs ++ a ∷ ys) ≡ list_all p (xs ++ ys)
-all_again p xs ys a m = one_truth (list_all p (xs ++ a ∷ ys)) (list_all p (xs ++ ys))
-    (λ e. all_of p (xs ++ ys) (λ b n. of_all p (xs ++ a ∷ ys) e b (among_more xs ys a b n)))
-    (λ e. all_of p (xs ++ a ∷ ys) (λ b n. elim (among_fewer xs ys a b n) [ inl k ↦ of_all p (xs ++ ys) e b k | inr q ↦ ap p q ∙ of_all p (xs ++ ys) e a (Among-left a xs ys m) ]))
-
-family_again : (xs ys : List Asked) (a : Asked) → Among a xs → in_family (xs ++ a ∷ ys) ≡ in_family (xs ++ ys)
-family_again xs ys a m = λ i. all_again (λ b. is_plain b.1) xs ys a m i || all_again (λ b. is_wit b.0 b.1) xs ys a m i
 
 unmerged_again : (e : AggregateError) (xs ys : List Asked) (a ask : Asked) → Among a xs → ((b : Asked) → Among b xs → IsWell b.1) → TellsUnmerged e (xs ++ ys) ask → TellsUnmerged e (xs ++ a ∷ ys) ask
 unmerged_again e xs ys a ask m well t =

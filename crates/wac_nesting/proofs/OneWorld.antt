@@ -7,6 +7,7 @@ use Rattle.wac_types_base.specs.Entries.{Name}
 use Rattle.wac_types_base.specs.Graph.{Among}
 use Rattle.wac_types_base.specs.Tree.{Tree, instance, Fields, no_fields, field}
 use Rattle.wac_types_base.specs.Fits.{HasField, FieldsFit, instance_fits}
+use Rattle.wac_types_base.proofs.Looked.{among-get}
 use Rattle.wac_types_fit.specs.Ordered.{InOrder, AllInOrder}
 use Rattle.wac_types_fit.specs.Lookups.{lookup}
 use Rattle.wac_types_fit.proofs.Looking.{looked-has, has-looked, in_order-at, all_given}
@@ -81,11 +82,6 @@ module _ (worlds : Worlds) (worlds_in_order : (t : Tag) (v : Tree) → worlds t 
 
 -- ---- two outputs of the same bytes
 
-slice_among : (packages : List Package) (i : ℕ) (p : Package) → slice_get packages i ≡ Some p → Among p packages
-slice_among [] i p e = absurd (none-some _ e)
-slice_among (q ∷ packages) zero p e = inl (sym (same_Some _ _ e))
-slice_among (q ∷ packages) (suc i) p e = inr (slice_among packages i p e)
-
 -- an output that was composed over these packages
 pub record IsOutput (worlds : Worlds) (bytes : List ℕ) (world : World) : Type 0 where
   pub packages : List Package
@@ -101,7 +97,7 @@ module _ (worlds : Worlds) (bytes : List ℕ) (world : World) (o : IsOutput worl
   of_tag k w i =
       let known = o.composed.known k i.instance i.there in
       let same : known.which ≡ i.which = same_Some _ _ (sym known.there ∙ i.stands) in
-      let says = o.true_of known.which (slice_among o.packages (o.ascribed_one.number k) known.which known.there) in
+      let says = o.true_of known.which (among-get o.packages (o.ascribed_one.number k) known.which known.there) in
       record {
         made = renamed meaning.same.to i.instance;
         there = (meaning.same.there k i.instance i.there).1;

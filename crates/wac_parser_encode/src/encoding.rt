@@ -7,7 +7,7 @@ ghost use Rattle.wac_graph_encode.specs.Encoding.{HasTrueWorld};
 ghost use Rattle.wac_graph_encode.specs.Finished.{MeansImported, MeansNested};
 ghost use Rattle.wac_parser_refusals.specs.Views.{cause_of};
 ghost use Rattle.wac_parser_resolve.specs.Resolved.{Places, graph_of, places_of};
-ghost use Rattle.wac_parser_encode.specs.Processing.{IsProcessed};
+ghost use Rattle.wac_parser_encode.specs.Processing.{IsProcessed, TellsSomeProcessor};
 ghost use Rattle.wac_parser_encode.specs.Meaning.{HasResolvedWorld, ImportsResolved, MeansResolved};
 ghost use Rattle.wac_parser_encode.specs.Refused.{CanBeEncoded, HasSource, RefusesResolved, TellsAnywhere, TellsSource, fault_in};
 
@@ -98,6 +98,7 @@ fn encoded_bytes(graph: &CompositionGraph, options: EncodeOptions) -> Result<Vec
     ensures ascribed { IfOk result (λ bytes. MeansResolved graph.now options bytes.items) }
     ensures imports { IfOk result (λ bytes. MeansImported graph.now options bytes.items) }
     ensures imported { IfOk result (λ bytes. ImportsResolved graph.now options bytes.items) }
+    ensures processor { IfOk result (λ bytes. TellsSomeProcessor options.processor bytes.items) }
     ensures free { OnOk result (CanBeEncoded graph.now options) }
     ensures acyclic { IfErr result IsNoCycle }
     ensures refused { IfErr result (TellsAnywhere graph.now options) }
@@ -124,6 +125,7 @@ fn encoded_world(
     ensures number { IfOk result (λ e. e.types.number ≡ numbers.1) }
     ensures world { IfOk result (λ e. HasTrueWorld graph.now e.types e.world) }
     ensures resolved { IfOk result (λ e. HasResolvedWorld graph.now e.types e.world) }
+    ensures processor { IfOk result (λ e. TellsSomeProcessor options.processor e.bytes.items) }
     ensures free { OnOk result (CanBeEncoded graph.now options) }
     ensures acyclic { IfErr result IsNoCycle }
     ensures refused { IfErr result (TellsAnywhere graph.now options) }
@@ -151,6 +153,7 @@ pub trait EncodeResolution {
         ensures ascribed { IfOk result (λ bytes. MeansResolved (graph self.now) options bytes.items) }
         ensures imports { IfOk result (λ bytes. MeansImported (graph self.now) options bytes.items) }
         ensures imported { IfOk result (λ bytes. ImportsResolved (graph self.now) options bytes.items) }
+        ensures processor { IfOk result (λ bytes. TellsSomeProcessor options.processor bytes.items) }
         ensures free { OnOk result (CanBeEncoded (graph self.now) options) }
         ensures refused { IfErr result (RefusesResolved (graph self.now) (places self.now) options) }
         ensures source { IfErr result (TellsSource (graph self.now)) };
@@ -165,6 +168,7 @@ pub trait EncodeResolution {
         ensures number { IfOk result (λ e. e.types.number ≡ numbers.1) }
         ensures world { IfOk result (λ e. HasTrueWorld (graph self.now) e.types e.world) }
         ensures resolved { IfOk result (λ e. HasResolvedWorld (graph self.now) e.types e.world) }
+        ensures processor { IfOk result (λ e. TellsSomeProcessor options.processor e.bytes.items) }
         ensures free { OnOk result (CanBeEncoded (graph self.now) options) }
         ensures refused { IfErr result (RefusesResolved (graph self.now) (places self.now) options) }
         ensures source { IfErr result (TellsSource (graph self.now)) };

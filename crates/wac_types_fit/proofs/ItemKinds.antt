@@ -195,8 +195,8 @@ module _ (c : Collection) (acyclic : IsAcyclic c) where
       let f = resource_found c r s in
       resource_by_alias r f.value f.value.alias f.at f.own refl (λ t p q. resource_by_size n t (omega arith) p)
 
-  -- a resource is a root name
-  resource_is : (r : ResourceId) → Stands c (ItemKind.Ty (TypeKind.Resource r)) → (n : Name) × (tree_in c (ItemKind.Ty (TypeKind.Resource r)) ≡ rigid (resource n) end)
+  -- a resource is the one at the end of its aliases
+  pub resource_is : (r : ResourceId) → Stands c (ItemKind.Ty (TypeKind.Resource r)) → (n : Name) × (tree_in c (ItemKind.Ty (TypeKind.Resource r)) ≡ rigid (resource n) end)
   resource_is r s = resource_by_size (suc (size_of c (ItemKind.Ty (TypeKind.Resource r)))) r (omega arith) s
 
   value_is : (v : ValueType) → Stands c (ItemKind.Value v) → tree_kind (tree_in c (ItemKind.Value v)) ≡ IsValue

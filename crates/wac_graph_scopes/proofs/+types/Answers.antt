@@ -32,9 +32,12 @@ use Rattle.wac_graph_scopes.proofs.ImportLaws.{written, world_describes, world_e
 use Rattle.std.proofs.lemmas.Result.{err_from_is_err_and, IfOk-weaker, on_ok_weaker}
 use Rattle.wac_types_base.proofs.Looked.{among-get}
 use Rattle.wac_graph_scopes.specs.Used.{Used}
-use Rattle.wac_graph_scopes.specs.InstanceRefusals.{InstanceRefused, too_deep, use_refused}
+use Rattle.wac_graph_scopes.specs.InstanceRefusals.{InstanceRefused, LacksIdentifiers, too_deep, use_refused}
+use Rattle.wac_graph_scopes.specs.ImportRefusals.{UsesUnnamed}
 use Rattle.wac_graph_scopes.proofs.StockLaws.{KeepsTypes-trans, keeps_listed, stock_on, refused_memory, item_refused, export_is_refused, one_interface}
-use Rattle.wac_graph_scopes.proofs.RefusedLaws.{interface_unsaid, world_unsaid}
+use Rattle.wac_graph_scopes.specs.ItemRefusals.{RefusedItem}
+use Rattle.wac_graph_scopes.proofs.RefusedLaws.{if_err_map, memory_apart, interface_unsaid, world_unsaid}
+use Rattle.wac_graph_scopes.proofs.ImportRefusals.{refused_then, exporting_refused}
 use Rattle.wac_graph_scopes.proofs.+types.Goals as goal
 
 pub items::push_instance_type-returns-clause-states : goal.items::push_instance_type-returns-clause-states
@@ -206,6 +209,23 @@ items::export_other_at-returns-in_err-export_item-in-Some-clause-refused m c sta
     export_is_refused types c.args.all.around.used.now depth c.args.all.around.depth id item.name.now item.kind e among
     (c.in_err-export_item-in-Some.ensures.refused c.in-Some.ensures.inside.0 w outer k.inside k.stands (around k.inside.here) id stock un))
 
+pub items::export_item-returns-in_err-description-clause-item : goal.items::export_item-returns-in_err-description-clause-item
+items::export_item-returns-in_err-description-clause-item m c stands =
+    let k = c.args.item.kind in
+    let p = err_from_is_err_and c.from_residual.result c.from_residual.ensures.1 in
+    rw (p.1, p.2) (λ un. subst (RefusedItem c.args.types.now k c.args.scope.now c.describe.new.scope) un (c.in_err-description.ensures.refused stands))
+
+pub items::export_item-returns-clause-item : goal.items::export_item-returns-clause-item
+items::export_item-returns-clause-item m c stands = if_err_map c.export_described.result (λ e g un. absurd (memory_apart (sym g ∙ un))) c.export_described.ensures.refused
+
+pub items::export_item-returns-in_err-description-clause-instance : goal.items::export_item-returns-in_err-description-clause-instance
+items::export_item-returns-in_err-description-clause-instance m c stands id of w outer i h are =
+    let p = err_from_is_err_and c.from_residual.result c.from_residual.ensures.1 in
+    rw (p.1, p.2) (λ un. c.in_err-description.ensures.instance stands id of w outer i h are un)
+
+pub items::export_item-returns-clause-instance : goal.items::export_item-returns-clause-instance
+items::export_item-returns-clause-instance m c stands id of w outer i h are = if_err_map c.export_described.result (λ e g un. absurd (memory_apart (sym g ∙ un))) c.export_described.ensures.refused
+
 pub items::export_item-returns-in_err-description-clause-refused : goal.items::export_item-returns-in_err-description-clause-refused
 items::export_item-returns-in_err-description-clause-refused m c stands w outer i h are id stock =
     let types = c.args.types.now in
@@ -251,37 +271,77 @@ imports::ImportScope::describe-returns-clause-describes m c world n w outer i im
     IfOk-weaker c.describe.result _ _ (λ d a. world_describes w types outer world imported exported i c.args.self.now c.describe.new.scope h n c.args.kind d a)
     (c.describe.ensures.describes w outer h.goes.writing.inside h.goes.writing.stands h.goes.used)
 
-pub imports::ImportScope::describe_import-returns-in-Some : goal.imports::ImportScope::describe_import-returns-in-Some
-imports::ImportScope::describe_import-returns-in-Some m c w outer i imported exported h =
-    subst (MayDescribeIn w c.args.all.types.now outer c.args.all.world i c.args.import.name.now c.args.import.kind c.describe_plainly.new.self imported exported) c.in-Some.is (c.in_ok-plainly.ensures w outer i imported exported h)
+pub imports::ImportScope::describe_import-returns-in-Some-clause-describes : goal.imports::ImportScope::describe_import-returns-in-Some-clause-describes
+imports::ImportScope::describe_import-returns-in-Some-clause-describes m c w outer i imported exported h =
+    subst (MayDescribeIn w c.args.all.types.now outer c.args.all.world i c.args.import.name.now c.args.import.kind c.describe_plainly.new.self imported exported) c.in-Some.is (c.in_ok-plainly.ensures.describes w outer i imported exported h)
 
-pub imports::ImportScope::describe_import-returns-in-None : goal.imports::ImportScope::describe_import-returns-in-None
-imports::ImportScope::describe_import-returns-in-None m c w outer i imported exported h =
+pub imports::ImportScope::describe_import-returns-in-None-clause-describes : goal.imports::ImportScope::describe_import-returns-in-None-clause-describes
+imports::ImportScope::describe_import-returns-in-None-clause-describes m c w outer i imported exported h =
     c.describe.ensures.describes c.args.all.world c.args.import.name.now w outer i imported exported
-    (subst (MayDescribeIn w c.args.all.types.now outer c.args.all.world i c.args.import.name.now c.args.import.kind c.describe_plainly.new.self imported exported) c.in-None.is (c.in_ok-plainly.ensures w outer i imported exported h))
+    (subst (MayDescribeIn w c.args.all.types.now outer c.args.all.world i c.args.import.name.now c.args.import.kind c.describe_plainly.new.self imported exported) c.in-None.is (c.in_ok-plainly.ensures.describes w outer i imported exported h))
 
-pub imports::ImportScope::write_import-returns-then-at-count : goal.imports::ImportScope::write_import-returns-then-at-count
-imports::ImportScope::write_import-returns-then-at-count m c w outer imported exported h new =
+pub imports::ImportScope::describe_import-returns-in_err-plainly-clause-refused : goal.imports::ImportScope::describe_import-returns-in_err-plainly-clause-refused
+imports::ImportScope::describe_import-returns-in_err-plainly-clause-refused m c stands w outer imported exported h =
+    let p = err_from_is_err_and c.from_residual.result c.from_residual.ensures.1 in
+    rw (p.1, p.2) (λ un. inl (c.in_err-plainly.ensures.refused un))
+
+pub imports::ImportScope::describe_import-returns-in-None-clause-refused : goal.imports::ImportScope::describe_import-returns-in-None-clause-refused
+imports::ImportScope::describe_import-returns-in-None-clause-refused m c stands w outer imported exported h =
+    let types = c.args.all.types.now in
+    let world = c.args.all.world in
+    let k = c.args.import.kind in
+    let between = c.describe_plainly.new.self in
+    let goes = (subst (MayDescribeIn w types outer world h.writing.inside c.args.import.name.now k between imported exported) c.in-None.is
+        (c.in_ok-plainly.ensures.describes w outer h.writing.inside imported exported (written w types outer world imported exported c.args.self.now h))).goes in
+    refused_then w types outer world imported exported k between c.describe.new.self (UsesUnnamed c.args.all c.args.import) c.describe.result goes (c.describe.ensures.refused stands)
+    (λ id of. c.describe.ensures.instance stands id of w outer goes.writing.inside goes.writing.stands goes.used)
+
+pub imports::ImportScope::write_import-returns-in_err-description-in-Some-clause-refused : goal.imports::ImportScope::write_import-returns-in_err-description-in-Some-clause-refused
+imports::ImportScope::write_import-returns-in_err-description-in-Some-clause-refused m c w outer imported exported h =
+    let p = err_from_is_err_and c.from_residual.result c.from_residual.ensures.1 in
+    rw (p.1, p.2) (λ un. (c.in-Some.import, c.in-Some.ensures.entry, c.in_err-description-in-Some.ensures.refused c.in-Some.ensures.inside.0 w outer imported exported h un))
+
+pub imports::ImportScope::write_import-returns-in_ok-description-in-Some-clause-refused : goal.imports::ImportScope::write_import-returns-in_ok-description-in-Some-clause-refused
+imports::ImportScope::write_import-returns-in_ok-description-in-Some-clause-refused m c w outer imported exported h =
+    if_err_map c.import_placed.result (λ e g un. absurd (memory_apart (sym g ∙ un))) c.import_placed.ensures.refused
+
+pub imports::ImportScope::export-returns-in_err-prepare-clause-refused : goal.imports::ImportScope::export-returns-in_err-prepare-clause-refused
+imports::ImportScope::export-returns-in_err-prepare-clause-refused m c stands w outer imported exported h =
+    let p = err_from_is_err_and c.from_residual.result c.from_residual.ensures.1 in
+    rw (p.1, p.2) (λ un. inl (c.in_err-prepare.ensures.refused un))
+
+pub imports::ImportScope::export-returns-clause-refused : goal.imports::ImportScope::export-returns-clause-refused
+imports::ImportScope::export-returns-clause-refused m c stands w outer imported exported h =
+    let types = c.args.all.types.now in
+    let world = c.args.all.world in
+    let k = c.args.item.kind in
+    let between = c.prepare.new.self in
+    let goes = (c.in_ok-prepare.ensures.keeps w outer h.writing.inside imported exported (written w types outer world imported exported c.args.self.now h)).goes in
+    exporting_refused w types outer world imported exported k between (record between { scope = c.export_item.new.scope }) (LacksIdentifiers types k) c.export_item.result goes
+    (c.export_item.ensures.item stands) (λ id of. c.export_item.ensures.instance stands id of w outer goes.writing.inside goes.writing.stands goes.used)
+
+pub imports::ImportScope::write_import-returns-then-at-count-clause-writes : goal.imports::ImportScope::write_import-returns-then-at-count-clause-writes
+imports::ImportScope::write_import-returns-then-at-count-clause-writes m c w outer imported exported h new =
     let types = c.args.all.types.now in
     let world = c.args.all.world in
     let is = imports_of types world in
     let past : length is ≤ c.args.at = omega (arith, c.if-at-count.true, c.import_count-count.ensures.len) in
     subst (λ (l : List Name). WritesWorld w types outer world c.args.self.now l exported) (sym (no_name_at is c.args.at imported past)) h
 
-pub imports::ImportScope::write_import-returns-in_ok-description-in-Some : goal.imports::ImportScope::write_import-returns-in_ok-description-in-Some
-imports::ImportScope::write_import-returns-in_ok-description-in-Some m c w outer imported exported h new =
+pub imports::ImportScope::write_import-returns-in_ok-description-in-Some-clause-writes : goal.imports::ImportScope::write_import-returns-in_ok-description-in-Some-clause-writes
+imports::ImportScope::write_import-returns-in_ok-description-in-Some-clause-writes m c w outer imported exported h new =
     let types = c.args.all.types.now in
     let world = c.args.all.world in
     let is = imports_of types world in
     let import = c.in-Some.import in
     let n = import.name.now in
     let entry = c.in-Some.ensures.entry in
-    let d = c.in_ok-description-in-Some.ensures w outer h.writing.inside imported exported (written w types outer world imported exported c.args.self.now h) in
+    let d = c.in_ok-description-in-Some.ensures.describes w outer h.writing.inside imported exported (written w types outer world imported exported c.args.self.now h) in
     IfOk-weaker c.import_placed.result _ _ (λ u a. subst (λ (l : List Name). WritesWorld w types outer world c.import_placed.new.self l exported) (name_added is c.args.at n import.kind imported entry) a)
-    (c.import_placed.ensures w outer h.writing.inside imported exported c.import_count-count.ensures.distinct c.in-Some.ensures.inside.0 entry (new n (name_at is c.args.at n import.kind entry)) d)
+    (c.import_placed.ensures.imports w outer h.writing.inside imported exported c.import_count-count.ensures.distinct c.in-Some.ensures.inside.0 entry (new n (name_at is c.args.at n import.kind entry)) d)
 
-pub imports::ImportScope::export-returns : goal.imports::ImportScope::export-returns
-imports::ImportScope::export-returns m c w outer imported exported stands is new h =
+pub imports::ImportScope::export-returns-clause-exports : goal.imports::ImportScope::export-returns-clause-exports
+imports::ImportScope::export-returns-clause-exports m c w outer imported exported stands is new h =
     let types = c.args.all.types.now in
     let world = c.args.all.world in
     let n = c.args.item.name.now in
@@ -300,7 +360,7 @@ worlds::write_imports-loop-at-preserved m c w outer imported exported dn d new h
     let k = get_or order i 0 in
     let at = slice_get-get_or order i 0 c.loop-at-test.true in
     let a = c.loop-at.invariant w outer imported exported dn d new h in
-    let b = c.in_ok-write_import.ensures w outer (imported ++ names_at ns (take i order)) exported a (next_new ns order imported i k dn d new at) in
+    let b = c.in_ok-write_import.ensures.writes w outer (imported ++ names_at ns (take i order)) exported a (next_new ns order imported i k dn d new at) in
     subst (λ (l : List Name). WritesWorld w types outer world c.write_import.new.self l exported) (next_names ns order imported i k at) b
 
 pub worlds::write_imports-returns : goal.worlds::write_imports-returns
@@ -317,7 +377,7 @@ worlds::export_other-returns-in-Some m c w outer imported exported stands is new
     let world = c.args.all.world in
     let n = c.args.item.name.now in
     let id = c.in-Some.id in
-    let e = c.in_ok-index.ensures w outer imported exported stands is new h in
+    let e = c.in_ok-index.ensures.exports w outer imported exported stands is new h in
     let i = e.goes.writing.inside in
     let instance : IsInstanceAt w (i.here ∷ outer) (tree_in types (ItemKind.Instance id)) c.in_ok-index.index =
     (Item n sort.Instance (tree_in types (ItemKind.Instance id)), subst (λ (k : ItemKind). found (i.here ∷ outer) sort.Instance c.in_ok-index.index ≡ Some (Item n sort.Instance (tree_in types k))) c.in-Some.ensures (e.means sort.Instance (ap sort_of c.in-Some.ensures)), refl) in
@@ -325,7 +385,7 @@ worlds::export_other-returns-in-Some m c w outer imported exported stands is new
     (c.alias_types.ensures w outer i imported (exported ++ n ∷ []) (written w types outer world imported (exported ++ n ∷ []) c.export.new.self e.goes) instance)
 
 pub worlds::export_other-returns-in-None : goal.worlds::export_other-returns-in-None
-worlds::export_other-returns-in-None m c w outer imported exported stands is new h = (c.in_ok-index.ensures w outer imported exported stands is new h).goes
+worlds::export_other-returns-in-None m c w outer imported exported stands is new h = (c.in_ok-index.ensures.exports w outer imported exported stands is new h).goes
 
 pub worlds::export_other_at-returns-in_ok-add_name-in-Some : goal.worlds::export_other_at-returns-in_ok-add_name-in-Some
 worlds::export_other_at-returns-in_ok-add_name-in-Some m c w outer imported places o =

@@ -21,7 +21,7 @@ loop-at-preserved c w outer imported exported dn d new h =
     let k = get_or order i 0 in
     let at = slice_get-get_or order i 0 c.loop-at-test.true in
     let a = c.loop-at.invariant w outer imported exported dn d new h in
-    let b = c.in_ok-write_import.ensures w outer (imported ++ names_at ns (take i order)) exported a (next_new ns order imported i k dn d new at) in
+    let b = c.in_ok-write_import.ensures.writes w outer (imported ++ names_at ns (take i order)) exported a (next_new ns order imported i k dn d new at) in
     subst (λ (l : List Name). WritesWorld w types outer world c.write_import.new.self l exported) (next_names ns order imported i k at) b
 
 pub returns : goal.returns

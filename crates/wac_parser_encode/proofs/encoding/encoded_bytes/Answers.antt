@@ -1,4 +1,5 @@
 use Rattle.std.proofs.Common.{subst}
+use Rattle.std.proofs.lemmas.Result.{IfOk-weaker}
 use Rattle.wac_types_base.specs.Collection.{IsAcyclic}
 use Rattle.wac_parser_encode.proofs.Meaning.{all_processed, imports_processed}
 use Rattle.wac_parser_encode.proofs.Refused.{sources_told, memory_refused, refuses_processed, free_processed}
@@ -25,3 +26,6 @@ returns-in-Err-clause-refused c = memory_refused c.args.graph.now c.args.options
 
 pub returns-in-Ok-clause-source : goal.returns-in-Ok-clause-source
 returns-in-Ok-clause-source c = sources_told c.args.graph.now c.in-Ok.options c.encode.result c.encode.ensures.refused
+
+pub returns-in-Ok-clause-processor : goal.returns-in-Ok-clause-processor
+returns-in-Ok-clause-processor c = IfOk-weaker c.encode.result _ _ (λ e t. (c.in-Ok.options.processor, c.in-Ok.ensures.processor, t)) c.encode.ensures.processor

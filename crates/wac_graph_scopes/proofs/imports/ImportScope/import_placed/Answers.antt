@@ -5,8 +5,8 @@ use Rattle.wac_graph_scopes.specs.Imports.{ImportsItem}
 use Rattle.wac_graph_scopes.proofs.ImportLaws.{world_imports}
 use Rattle.wac_graph_scopes.proofs.imports.ImportScope.import_placed.Goals as goal
 
-pub returns : goal.returns
-returns c w outer from imported exported distinct stands there new h =
+pub returns-clause-imports : goal.returns-clause-imports
+returns-clause-imports c w outer from imported exported distinct stands there new h =
     let types = c.args.all.types.now in
     let import = c.args.import in
     let n = import.name.now in
