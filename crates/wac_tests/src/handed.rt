@@ -52,3 +52,13 @@ pub(crate) fn add(
     }
     Some(workspace.add_package(name, None, bytes, &types, world))
 }
+
+/// A workspace that holds `p:p`.
+pub(crate) fn passing_workspace(alloc: Global) -> Result<Workspace, Fail> {
+    let mut workspace = Workspace::new(alloc);
+    let bytes = bytes_of(alloc, PASSING)?;
+    match add(alloc, &mut workspace, "p:p", bytes) {
+        Some(Ok(())) => Ok(workspace),
+        _ => Err("p:p is not added")?,
+    }
+}

@@ -1,25 +1,15 @@
-//! Plugging as a text.
+//! Plugging as a text, of names that no row can state.
 
 ghost use Rattle.std.specs.Prelude.{IfOk};
 ghost use Rattle.wac_texts.specs.Worlds.{HasWorld};
 
-use super::handed::{PASSING, add, bytes_of};
+use super::handed::bytes_of;
 use super::worlds::{add_func, add_world};
 use std::alloc::Global;
 use std::test::Fail;
 use wac_texts::{PlugTextError, plug_text};
 use wac_types_base::{ItemKind, Types};
 use wac_workspace::*;
-
-/// A workspace that holds `p:p`.
-fn with_passing(alloc: Global) -> Result<Workspace, Fail> {
-    let mut workspace = Workspace::new(alloc);
-    let bytes = bytes_of(alloc, PASSING)?;
-    match add(alloc, &mut workspace, "p:p", bytes) {
-        Some(Ok(())) => Ok(workspace),
-        _ => Err("p:p is not added")?,
-    }
-}
 
 /// The package of a name.
 fn find<'a>(workspace: &'a Workspace, name: &str) -> Result<PackageRef<'a>, Fail>
@@ -65,19 +55,6 @@ fn spelled(
     let plug = find(workspace, plug)?;
     let socket = find(workspace, socket)?;
     Ok(plug_text(alloc, "v:v", &[plug], socket))
-}
-
-#[test]
-fn plugging_as_a_text(rt: HostRuntime) -> Result<(), Fail> {
-    let alloc = rt.alloc();
-    let mut workspace = with_passing(alloc)?;
-    add_socket(alloc, &mut workspace, "g")?;
-    let text = spelled(alloc, &workspace, "p:p", "q:q")??;
-    assert_eq!(rt;
-        text.as_str(),
-        "package v:v;\n\nlet plug0 = new p:p { ... };\n\nlet socket = new q:q {\n    \"g\": plug0[\"g\"],\n    ...\n};\n\nexport socket...;\n"
-    );
-    Ok(())
 }
 
 #[test]

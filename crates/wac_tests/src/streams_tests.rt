@@ -1,4 +1,4 @@
-use super::handed::{ONE, PASSING, SOURCE, add, bytes_of};
+use super::handed::{ONE, PASSING, SOURCE, bytes_of, passing_workspace};
 use super::streams::{Endless, FailsAtOnce, SliceSource, TakesNothing, VecSink};
 use std::alloc::Global;
 use std::process::Abort;
@@ -91,9 +91,7 @@ fn sinks(rt: HostRuntime) -> Result<(), Fail> {
 #[test]
 fn composed_from_end_to_end(rt: HostRuntime) -> Result<(), Fail> {
     let alloc = rt.alloc();
-    let mut workspace = Workspace::new(alloc);
-    let bytes = bytes_of(alloc, PASSING)?;
-    assert!(rt; matches!(add(alloc, &mut workspace, "p:p", bytes), Some(Ok(()))));
+    let mut workspace = passing_workspace(alloc)?;
     let mut source = SliceSource::new(SOURCE.as_bytes());
     source.most = 7;
     let mut sink = VecSink::byte_by_byte(alloc);
@@ -104,23 +102,36 @@ fn composed_from_end_to_end(rt: HostRuntime) -> Result<(), Fail> {
     Ok(())
 }
 
-/// How a stream over an empty workspace ends: nothing is written, and no number is taken.
-fn refused<R: ByteSource>(rt: &impl Abort, alloc: Global, reader: &mut R) -> &'static str {
-    let mut workspace = Workspace::new(alloc);
+/// Whether a workspace holds `p:p` alone, and took no other number.
+fn holds_passing_alone(alloc: Global, workspace: &Workspace) -> Result<bool, Fail> {
+    let wanted = bytes_of(alloc, PASSING)?;
+    let mut packages = workspace.packages();
+    let first = packages.next().ok_or("no package")?.package;
+    let is_passing = first.name() == "p:p" && first.bytes() == wanted.as_slice();
+    Ok(is_passing && packages.next().is_none() && workspace.next_number() == 1)
+}
+
+/// How a stream over a workspace of `p:p` ends: nothing is written, and the workspace is as before.
+fn refused<R: ByteSource>(
+    rt: &impl Abort,
+    alloc: Global,
+    reader: &mut R,
+) -> Result<&'static str, Fail> {
+    let mut workspace = passing_workspace(alloc)?;
     let mut sink = VecSink::new(alloc);
     let outcome = compose_stream(&mut workspace, reader, &mut sink, EncodeOptions::default());
     assert_eq!(rt; sink.calls, 0);
-    assert_eq!(rt; workspace.next_number(), 0);
-    ended(outcome)
+    assert!(rt; holds_passing_alone(alloc, &workspace)?);
+    Ok(ended(outcome))
 }
 
 #[test]
 fn streams_refused(rt: HostRuntime) -> Result<(), Fail> {
-    let unread = refused(&rt, rt.alloc(), &mut FailsAtOnce { calls: 0 });
+    let unread = refused(&rt, rt.alloc(), &mut FailsAtOnce { calls: 0 })?;
     assert_eq!(rt; unread, "unread");
-    let no_text = refused(&rt, rt.alloc(), &mut SliceSource::new(b"\xff"));
+    let no_text = refused(&rt, rt.alloc(), &mut SliceSource::new(b"\xff"))?;
     assert_eq!(rt; no_text, "no text");
-    let no_document = refused(&rt, rt.alloc(), &mut SliceSource::new(b"package a:b"));
+    let no_document = refused(&rt, rt.alloc(), &mut SliceSource::new(b"package a:b"))?;
     assert_eq!(rt; no_document, "no document");
     Ok(())
 }
@@ -129,14 +140,14 @@ fn streams_refused(rt: HostRuntime) -> Result<(), Fail> {
 fn streams_too_long(rt: HostRuntime) -> Result<(), Fail> {
     let long = vec![in rt.alloc(); b' '; MAX_SOURCE_LENGTH + 1]?;
     assert_eq!(rt;
-        refused(&rt, rt.alloc(), &mut SliceSource::new(&long)),
+        refused(&rt, rt.alloc(), &mut SliceSource::new(&long))?,
         "too long"
     );
     let mut endless = Endless {
         byte: b' ',
         calls: 0,
     };
-    assert_eq!(rt; refused(&rt, rt.alloc(), &mut endless), "too long");
+    assert_eq!(rt; refused(&rt, rt.alloc(), &mut endless)?, "too long");
     Ok(())
 }
 
@@ -168,11 +179,7 @@ fn stream_source(
     failing_read: Option<usize>,
     failing_write: Option<usize>,
 ) -> Result<Streamed, Fail> {
-    let mut workspace = Workspace::new(alloc);
-    let bytes = bytes_of(alloc, PASSING)?;
-    if !matches!(add(alloc, &mut workspace, "p:p", bytes), Some(Ok(()))) {
-        return Err("not added")?;
-    }
+    let mut workspace = passing_workspace(alloc)?;
     let mut source = SliceSource::new(SOURCE.as_bytes());
     source.most = 20;
     source.fails_at = failing_read;

@@ -9,7 +9,7 @@ use wac_types_base::{ItemKind, PrimitiveType, Types, ValueType, WorldId};
 use wac_workspace::*;
 
 /// Adds a component whose only byte is this.
-fn add(
+pub(crate) fn add(
     alloc: Global,
     workspace: &mut Workspace,
     leaf: (&str, u8),
@@ -65,7 +65,8 @@ fn shown(
     }
 }
 
-const VALUE: ItemKind = ItemKind::Value(ValueType::Primitive(PrimitiveType::U32));
+/// An item that is a value.
+pub(crate) const VALUE: ItemKind = ItemKind::Value(ValueType::Primitive(PrimitiveType::U32));
 
 #[test]
 fn a_value_asked_for(rt: HostRuntime) -> Result<(), Fail> {
