@@ -1,8 +1,9 @@
 -- Each package that a document instantiates is named in one of its `new`s.
-use Rattle.std.specs.Prelude.{not, ◌||◌, is_none, ⊤, if◌then◌else◌}
+use Rattle.std.specs.Prelude.{not, ◌||◌, is_none, ⊤, bytes_eq, option_map, if◌then◌else◌}
 use Rattle.std.specs.List.{All, list_any}
 use Rattle.std.proofs.lemmas.List.Elements.{All-head, All-tail}
-use Rattle.std.proofs.Common.{◌≡◌, ℕ, Bool, true, false, List, [], ◌∷◌, ◌++◌, map, Option, Ok, sym, subst}
+use Rattle.std.proofs.Common.{◌≡◌, ℕ, Bool, true, false, List, [], ◌∷◌, ◌++◌, map, Option, Some, None, Ok, refl, sym, subst}
+use Rattle.semver.specs.Parse.{Parts}
 use Rattle.wac_types_base.specs.declared.item.ExternKind.{ExternKind}
 use Rattle.wac_types_base.specs.Entries.{value_at, names_of}
 use Rattle.wac_types_base.specs.Graph.{Among}
@@ -13,19 +14,21 @@ use Rattle.wac_parser_tree.specs.Trees.{Span}
 use Rattle.wac_parser_tree.specs.Accessors.{argument_name_span as argument_span, postfix_expr_span as postfix_span, primary_expr_span as primary_span}
 use Rattle.wac_parser_grammar.specs.PathsOfTrees.{EachInExpr, EachInPrimary, EachInNew, EachInArgument, EachInNamed, EachInNested, EachInArguments, EachInStatement, EachInDocument}
 use Rattle.wac_parser_refusals.specs.declared.error.InstanceOperation.{InstanceOperation}
-use Rattle.wac_parser_refusals.specs.Causes.{Answer, pure, unless_clear, present, each, InvalidExternName, ExportRequiresAs, FillArgumentNotLast}
+use Rattle.wac_parser_refusals.specs.Causes.{Answer, pure, unless_clear, present, each, InvalidExternName, ExportRequiresAs, FillArgumentNotLast, UnknownPackage}
 use Rattle.wac_parser_declare.specs.Packages.{Content}
-use Rattle.wac_parser_declare.specs.Scope.{bind}
+use Rattle.wac_parser_declare.specs.Scope.{bind, world_of_package}
 use Rattle.wac_parser_declare.specs.Worlds.{type_statement}
-use Rattle.wac_parser_resolve.specs.Ascribing.{imported, defined, Denoted, Made, Import, State, start, root_scope, context, denoted_by, bound, is_projection, same_origin, speak_of}
-use Rattle.wac_parser_resolve.specs.Denoting.{Given, needs_instance, export_named, access_by, spoken, access, accesses, add_given, inferred_name, argument_name, left_names, spread_given, spread_all, spread_one, spreads_of, argument_fits, complete, is_filled, is_last, with_made, finished, new_package, denote, primary, nested, new_instance, arguments, one_argument, named_argument}
+use Rattle.wac_parser_resolve.specs.Ascribing.{imported, defined, Denoted, Made, Import, State, start, root_scope, context, denoted_by, bound, is_projection, same_origin, speak_of, worlds_of}
+use Rattle.wac_parser_resolve.specs.Choosing.{greatest_on}
+use Rattle.wac_parser_resolve.specs.Denoting.{Given, needs_instance, export_named, access_by, spoken, access, accesses, add_given, inferred_name, argument_name, left_names, spread_given, spread_all, spread_one, spreads_of, argument_fits, complete, is_filled, is_last, with_made, finished, key_named, version_key, new_package, denote, primary, nested, new_instance, arguments, one_argument, named_argument}
 use Rattle.wac_parser_resolve.specs.Saying.{asked, import_name, import_called, not_imported, is_extern_name, is_exportable, no_definition, new_export, export_name, written_name, with_import, import_statement, not_exported, with_definition, declaration, declared_id, export_as, exported, export_one, export_left, expr_span, statement, statements}
 use Rattle.wac_parser_resolve.specs.Meeting.{target, resolved}
 use Rattle.wac_parser_resolve.proofs.Answers.{err_ok, ok_of, then_ok, ok_is, each_keeps}
 use Rattle.wac_parser_resolve.proofs.Numbers.{each_more}
 
 -- names of packages, of which something holds that makes their keys so
-module _ (Holds : Key → Type 0) (Name : t.PackageName → Type 0) (Path : t.PackagePath → Type 0) (named : (p : t.PackageName) → Name p → Holds (p.name, p.version)) where
+module _ (Holds : Key → Type 0) (Name : t.PackageName → Option (List ℕ) → Type 0) (Path : t.PackagePath → Type 0) (named : (p : t.PackageName) → Name p None → Holds (p.name, p.version))
+    (chosen : (p : t.PackageName) (track : List ℕ) (ks : List Key) (v : Parts) → Name p (Some track) → greatest_on ks p.name track ≡ Some v → Holds (version_key p.name v)) where
   -- each instance is of such a package
   abbrev pub AreOfSuch : State → Type 0
   AreOfSuch g = (m : Made) → Among m g.made → Holds m.key
@@ -64,12 +67,27 @@ module _ (Holds : Key → Type 0) (Name : t.PackageName → Type 0) (Path : t.Pa
 
   -- ---- a `new` makes one, of the package that it names
 
-  finishing : (g : State) (p : t.PackageName) (w : Stated) (gs : List Given) (b : Bool) (r : State × Denoted) → Name p → AreOfSuch g → Ok r ≡ finished g p w gs b → AreOfSuch r.0
-  finishing g p w gs b r n f e =
-      let x = then_ok (each (argument_fits (p.name, p.version) w) tt gs) _ r e in
+  key_holds : (ks : List Key) (p : t.PackageName) (track : Option (List ℕ)) (k : Key) → Name p track → Ok k ≡ key_named ks p track → Holds k
+  key_holds ks p None k n e = subst Holds (sym (ok_is k (p.name, p.version) e)) (named p n)
+  key_holds ks p (Some track) k n e = by (greatest_on ks p.name track) refl e
+    where
+      by : (o : Option Parts) → greatest_on ks p.name track ≡ o → Ok k ≡ present (option_map (version_key p.name) o) (UnknownPackage p.name) p.span → Holds k
+      by None g e = absurd (err_ok _ k e)
+      by (Some v) g e = subst Holds (sym (ok_is k (version_key p.name v) e)) (chosen p track ks v n g)
+
+  new_holds : (g : State) (p : t.PackageName) (track : Option (List ℕ)) (x : Key × Stated) → Name p track → Ok x ≡ new_package g p track → Holds x.0
+  new_holds g p track x n e =
+      let y = then_ok (unless_clear (bytes_eq p.name g.own.name) (UnknownPackage p.name) p.span) _ x e in
+      let k = ok_of (key_named (names_of g.packages) p track) _ x y in
+      let w = ok_of (world_of_package (worlds_of g.packages) k.0 p.span) _ x k.2 in
+      subst (λ (q : Key × Stated). Holds q.0) (sym (ok_is x (k.0, w.0) w.2)) (key_holds (names_of g.packages) p track k.0 n (sym k.1))
+
+  finishing : (g : State) (p : t.PackageName) (k : Key) (w : Stated) (gs : List Given) (b : Bool) (r : State × Denoted) → Holds k → AreOfSuch g → Ok r ≡ finished g p k w gs b → AreOfSuch r.0
+  finishing g p k w gs b r n f e =
+      let x = then_ok (each (argument_fits k w) tt gs) _ r e in
       let y = then_ok (complete b p gs (names_of (imports_of w))) _ r x in
-      let m : Made = record { key = (p.name, p.version); world = w; arguments = map (λ (a : Given). (a.name, a.denoted)) gs; span = p.span } in
-      subst (λ (q : State × Denoted). AreOfSuch q.0) (sym (ok_is r (with_made g m) y)) (each_more (λ (z : Made). Holds z.key) g.made m f (named p n))
+      let m : Made = record { key = k; world = w; arguments = map (λ (a : Given). (a.name, a.denoted)) gs; span = p.span } in
+      subst (λ (q : State × Denoted). AreOfSuch q.0) (sym (ok_is r (with_made g m) y)) (each_more (λ (z : Made). Holds z.key) g.made m f n)
 
   mutual
     denoting : (g : State) (x : t.Expr) (r : State × Denoted) → EachInExpr Name x → AreOfSuch g → Ok r ≡ denote g x → AreOfSuch r.0
@@ -86,13 +104,13 @@ module _ (Holds : Key → Type 0) (Name : t.PackageName → Type 0) (Path : t.Pa
     nested_denoting g (t.NestedExpr.nested_expr s x) r n f e = denoting g x r n f e
 
     new_denoting : (g : State) (x : t.NewExpr) (r : State × Denoted) → EachInNew Name x → AreOfSuch g → Ok r ≡ new_instance g x → AreOfSuch r.0
-    new_denoting g (t.NewExpr.new_expr s p xs) r n f e =
-        let a = ok_of (new_package g p) _ r e in
-        let ns = names_of (imports_of a.0) in
+    new_denoting g (t.NewExpr.new_expr s p track xs) r n f e =
+        let a = ok_of (new_package g p track) _ r e in
+        let ns = names_of (imports_of a.0.1) in
         let b = ok_of (arguments g ns [] xs) _ r a.2 in
         let d = ok_of (each (spread_one ns) b.0 (spreads_of xs)) _ r b.2 in
         let passed = arguments_denoting g ns [] xs b.0 n.1 f (sym b.1) in
-        finishing d.0.0 p a.0 d.0.1 (is_filled xs) r n.0 (each_keeps (spread_one ns) (λ (q : State × List Given). AreOfSuch q.0) (spreading ns) b.0 d.0 (spreads_of xs) passed (sym d.1)) d.2
+        finishing d.0.0 p a.0.0 a.0.1 d.0.1 (is_filled xs) r (new_holds g p track a.0 n.0 (sym a.1)) (each_keeps (spread_one ns) (λ (q : State × List Given). AreOfSuch q.0) (spreading ns) b.0 d.0 (spreads_of xs) passed (sym d.1)) d.2
 
     arguments_denoting : (g : State) (ns : List (List ℕ)) (gs : List Given) (xs : t.Arguments) (r : State × List Given) → EachInArguments Name xs → AreOfSuch g → Ok r ≡ arguments g ns gs xs → AreOfSuch r.0
     arguments_denoting g ns gs t.Arguments.no_arguments r n f e = subst (λ (q : State × List Given). AreOfSuch q.0) (sym (ok_is r (g, gs) e)) f

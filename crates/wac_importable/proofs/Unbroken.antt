@@ -1,14 +1,18 @@
 -- No byte of a package name is `<`, so the name under which the package is imported is that of a dependency.
 use Rattle.std.specs.List.{AllByRecursion}
-use Rattle.std.proofs.Common.{◌≡◌, ◌≢◌, ℕ, ◌<◌, inl, inr, Bool, true, false, eqb, List, [], ◌∷◌, ◌++◌, length, codes, Option, Some, None, refl, ap, sym, subst, ◌∙◌, arith, append_assoc, append-nil}
+use Rattle.std.proofs.Common.{◌≡◌, ◌≢◌, ℕ, ◌<◌, inl, inr, Bool, true, false, eqb, List, [], ◌∷◌, ◌++◌, length, codes, Option, Some, None, refl, ap, sym, subst, ◌∙◌, arith, append_assoc, append-nil, lit≤}
 use Rattle.semver.specs.Parse.{Parts}
 use Rattle.semver.specs.Identifiers.{parts_text}
 use Rattle.wac_names.specs.ComponentNames.{IsDependency}
+use Rattle.wac_types_names.specs.Keys.{Key}
 use Rattle.wac_composition.specs.Conflicts.{version_name, dependency_name}
 use Rattle.wac_parser_lexer.specs.Words.{is_lower, is_upper, is_digit, is_lower_word_byte, is_upper_word_byte, is_version_byte, Passes, IsRun, IsWord, Joined, one, more, Followed, IsLabel, IsIdent, IsNames, IsVersion, IsPackageName}
 use Rattle.wac_parser_lexer.proofs.FirstLaws.{apart}
 use Rattle.wac_parser_lexer.proofs.WordLaws.{passes_run, names_longest}
 use Rattle.wac_parser_grammar.specs.Paths.{versioned}
+use Rattle.wac_parser_resolve.specs.Choosing.{IsGreatest, greatest_on}
+use Rattle.wac_parser_resolve.proofs.Choosing.{choices_are_greatest}
+use Rattle.wac_parser_resolve.proofs.TrackedNames.{is_strange, tracked}
 
 abbrev Unbroken : List ℕ → Type 0
 Unbroken text = AllByRecursion (λ b. eqb b 60 ≡ false) text
@@ -94,6 +98,11 @@ dependency name v some whole = inl (record {
   form = record { inside = name ++ version_name v; is = sym (append_assoc name (version_name v) (codes ">")); some = some; unbroken = whole };
 })
 
+with_version : (name : List ℕ) (p : Parts) → Unbroken name → Unbroken (parts_text p) → IsDependency (dependency_name (name, Some p))
+with_version name p front parts =
+    dependency name (Some p) (joint_behind name (codes "{>=" ++ (parts_text p ++ codes "}")) 64)
+    (both name (version_name (Some p)) front (refl, (refl, (refl, (refl, both (parts_text p) (codes "}") parts (refl, tt))))))
+
 -- a name that has this text, which is a package name
 pub importable : (text name : List ℕ) (v : Option Parts) → IsPackageName text → text ≡ versioned name v → IsDependency (dependency_name (name, v))
 importable text name None form is =
@@ -101,6 +110,12 @@ importable text name None form is =
     dependency name None (λ e. names_some text form (sym nothing ∙ e)) (subst Unbroken (sym nothing) (package_name text form))
 importable text name (Some p) form is =
     let whole : Unbroken (name ++ 64 ∷ parts_text p) = subst Unbroken is (package_name text form) in
-    let parts = (right name (64 ∷ parts_text p) whole).1 in
-    dependency name (Some p) (joint_behind name (codes "{>=" ++ (parts_text p ++ codes "}")) 64)
-    (both name (version_name (Some p)) (left name (64 ∷ parts_text p) whole) (refl, (refl, (refl, (refl, both (parts_text p) (codes "}") parts (refl, tt))))))
+    with_version name p (left name (64 ∷ parts_text p) whole) (right name (64 ∷ parts_text p) whole).1
+
+-- a name that has this text with a track behind it, and the greatest version on that
+pub tracked_importable : (text name track : List ℕ) (ks : List Key) (v : Parts) → IsPackageName text → text ≡ name ++ 64 ∷ track → greatest_on ks name track ≡ Some v
+    → IsDependency (dependency_name (name, Some v))
+tracked_importable text name track ks v form is e =
+    let there = (subst (IsGreatest ks name track) e (choices_are_greatest ks name track)).0 in
+    let whole : Unbroken (name ++ 64 ∷ track) = subst Unbroken is (package_name text form) in
+    with_version name v (left name (64 ∷ track) whole) ((tracked name name (parts_text v) track there.read there.on).lacks 60 (is_strange 60 refl refl refl (lit≤ tt)))

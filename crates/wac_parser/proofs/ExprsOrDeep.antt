@@ -1,5 +1,5 @@
 -- What has the plain form of an expression is read, or refused as nested too deep.
-use Rattle.std.proofs.Common.{◌≡◌, ℕ, zero, suc, true, [], ◌∷◌, refl, ap, sym, ◌∙◌}
+use Rattle.std.proofs.Common.{◌≡◌, ℕ, zero, suc, true, List, [], ◌∷◌, Option, refl, ap, sym, ◌∙◌}
 use Rattle.wac_parser_lexer.specs.declared.token.Token.TheVariants as k
 use Rattle.wac_parser_lexer.specs.Items.{Input}
 use Rattle.wac_parser_tree.specs.Trees as t
@@ -14,7 +14,7 @@ use Rattle.wac_parser_grammar.proofs.ExactLists.{while_exact}
 use Rattle.wac_parser_grammar.proofs.ExprLaws.{postfix_expr_exact, postfix_expr_takes, instantiation_argument_exact, instantiation_argument_takes, expr_exact, expr_takes}
 use Rattle.wac_parser_grammar.proofs.TableBack.{any_at}
 use Rattle.wac_parser_grammar.proofs.TableBackExprs.{unarguments, arguments_again, listed, no_colon, no_access, accesses_back}
-use Rattle.wac_parser.proofs.OrDeep.{Meets, met, taken, go, made, at, as_one, next, come, pass, past, any_here, pass_any, no_room, ident_met, string_met, package_name_met}
+use Rattle.wac_parser.proofs.OrDeep.{Meets, met, taken, go, made, at, as_one, next, come, pass, past, any_here, pass_any, no_room, ident_met, string_met, new_package_met}
 use Rattle.wac_parser.proofs.OrDeepLists.{list_met}
 
 -- ---- arguments
@@ -31,7 +31,7 @@ argument_begun s (t.InstantiationArgument.fill span) r h = any_at k.Ellipsis e.a
 
 primary_begun : (s : Input) (x : t.PrimaryExpr) (r : Input) → Primary x s r → sees_any e.expr_first s ≡ true
 unfolding same_token
-primary_begun s (t.PrimaryExpr.new (t.NewExpr.new_expr span name xs)) r h = any_at k.NewKeyword e.expr_first h.0 s h.3.0 h.3.1
+primary_begun s (t.PrimaryExpr.new (t.NewExpr.new_expr span name track xs)) r h = any_at k.NewKeyword e.expr_first h.0 s h.3.0 h.3.1
 primary_begun s (t.PrimaryExpr.nested (t.NestedExpr.nested_expr span value)) r h = any_at k.OpenParen e.expr_first h.0 s h.3.0 h.3.1
 primary_begun s (t.PrimaryExpr.ident id) r h = any_at k.Ident e.expr_first id.span s r h.0
 
@@ -81,16 +81,16 @@ module _ (inner : Rule t.Expr) (meets : (s : Input) (x : t.Expr) (r : Input) →
       (λ span s m at. any_at k.Comma (k.Comma ∷ k.CloseBrace ∷ []) span s m at) (λ span s m at. any_at k.CloseBrace (k.Comma ∷ k.CloseBrace ∷ []) span s m at) refl
       (unarguments xs) s r m span (listed xs s r h) at
 
-  new_met : (span : t.Span) (name : t.PackageName) (xs : t.Arguments) (s r : Input) → New (t.NewExpr.new_expr span name xs) s r → Meets (e.new_expr inner) s (t.NewExpr.new_expr span name xs) r
+  new_met : (span : t.Span) (name : t.PackageName) (track : Option (List ℕ)) (xs : t.Arguments) (s r : Input) → New (t.NewExpr.new_expr span name track xs) s r → Meets (e.new_expr inner) s (t.NewExpr.new_expr span name track xs) r
   unfolding e.new_expr
-  new_met span name xs s r h =
+  new_met span name track xs s r h =
       let i = h.3.2.1 in
-      let same = ap (λ (z : t.Span). t.NewExpr.new_expr z name xs) h.2 ∙ ap (λ (z : t.Arguments). t.NewExpr.new_expr (through h.0 h.1) name z) (sym (arguments_again xs)) in
-      go _ (at h.3.1) (go _ (package_name_met i.1) (go _ (at i.2.1.1) (go _ (arguments_met xs i.2.0 h.3.2.0 r h.1 i.2.2 h.3.2.2) (go _ (at h.3.2.2) (made same)))))
+      let same = ap (λ (z : t.Span). t.NewExpr.new_expr z name track xs) h.2 ∙ ap (λ (z : t.Arguments). t.NewExpr.new_expr (through h.0 h.1) name track z) (sym (arguments_again xs)) in
+      go _ (at h.3.1) (go _ (new_package_met i.1) (go _ (at i.2.1.1) (go _ (arguments_met xs i.2.0 h.3.2.0 r h.1 i.2.2 h.3.2.2) (go _ (at h.3.2.2) (made same)))))
 
   primary_met : (s : Input) (x : t.PrimaryExpr) (r : Input) → Primary x s r → Meets (e.primary_expr inner) s x r
   unfolding e.primary_expr same_token
-  primary_met s (t.PrimaryExpr.new (t.NewExpr.new_expr span name xs)) r h = come _ (next h.3.1) (as_one t.PrimaryExpr.new (new_met span name xs s r h))
+  primary_met s (t.PrimaryExpr.new (t.NewExpr.new_expr span name track xs)) r h = come _ (next h.3.1) (as_one t.PrimaryExpr.new (new_met span name track xs s r h))
   primary_met s (t.PrimaryExpr.nested (t.NestedExpr.nested_expr span value)) r h =
       let nx = next h.3.1 in pass _ _ nx refl (come _ nx (as_one t.PrimaryExpr.nested (nested_met span value s r h)))
   primary_met s (t.PrimaryExpr.ident id) r h = let nx = next h.0 in pass _ _ nx refl (pass _ _ nx refl (come _ nx (as_one t.PrimaryExpr.ident (ident_met h))))

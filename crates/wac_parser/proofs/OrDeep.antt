@@ -1,5 +1,5 @@
 -- What is read up to a place, or refused as nested too deep: how that passes through the rules.
-use Rattle.std.proofs.Common.{◌≡◌, true, false, List, Some, Ok, Err, refl, ap, subst, sym, ◌∙◌}
+use Rattle.std.proofs.Common.{◌≡◌, ℕ, true, false, List, Option, Some, Ok, Err, refl, ap, subst, sym, ◌∙◌}
 use Rattle.wac_parser_lexer.specs.declared.span.SourceSpan.{SourceSpan}
 use Rattle.wac_parser_lexer.specs.declared.token.Token.{Token}
 use Rattle.wac_parser_lexer.specs.Items.{Input}
@@ -9,11 +9,11 @@ use Rattle.wac_parser_grammar.specs.Ahead.{is_token, is_any, next_token, same_to
 use Rattle.wac_parser_grammar.specs.Rules.{Rule, ◌>>=◌, pure, token, look, choose, begin, begin_any, optional, span_of_items}
 use Rattle.wac_parser_grammar.specs.Names as n
 use Rattle.wac_parser_grammar.specs.ValueTypes.{too_deep}
-use Rattle.wac_parser_grammar.specs.Forms.{At, Docs, Ident, Quoted, PackageName, PackagePath}
+use Rattle.wac_parser_grammar.specs.Forms.{At, Docs, Ident, Quoted, PackageName, NewPackage, PackagePath}
 use Rattle.wac_parser_grammar.specs.FormDepths.{Ends}
 use Rattle.wac_parser_grammar.proofs.Exact.{Exact, token_exact, optional_exact, found_same}
-use Rattle.wac_parser_grammar.proofs.NameLaws.{docs_exact, ident_exact, string_exact, package_name_exact, package_path_exact}
-use Rattle.wac_parser_grammar.proofs.TableBack.{next_at, optional_here, optional_past, ident_back, string_back, package_name_back, package_path_back}
+use Rattle.wac_parser_grammar.proofs.NameLaws.{docs_exact, ident_exact, string_exact, package_name_exact, new_package_exact, package_path_exact}
+use Rattle.wac_parser_grammar.proofs.TableBack.{next_at, optional_here, optional_past, ident_back, string_back, package_name_back, new_package_back, package_path_back}
 
 -- the rule reads the value up to the second place, or refuses it as nested too deep
 pub data Meets {X : Type 0} (p : Rule X) (s : Input) (x : X) (r : Input) : Type 0 where
@@ -133,6 +133,9 @@ string_met h = taken string_exact (string_back _ _ _ h)
 
 pub package_name_met : {s r : Input} {x : t.PackageName} → PackageName x s r → Meets n.package_name s x r
 package_name_met h = taken package_name_exact (package_name_back _ _ _ h)
+
+pub new_package_met : {s r : Input} {x : t.PackageName × Option (List ℕ)} → NewPackage x s r → Meets n.new_package s x r
+new_package_met h = taken new_package_exact (new_package_back _ _ _ h)
 
 pub package_path_met : {s r : Input} {x : t.PackagePath} → PackagePath x s r → Meets n.package_path s x r
 package_path_met h = taken package_path_exact (package_path_back _ _ _ h)

@@ -21,6 +21,7 @@ pub use Rattle.wac_parser_grammar.specs.Faults
 pub use Rattle.wac_parser_grammar.specs.Ahead
 pub use Rattle.wac_parser_grammar.specs.Rules
 pub use Rattle.wac_parser_grammar.specs.Reads
+pub use Rattle.wac_parser_grammar.specs.Tracks
 pub use Rattle.wac_parser_grammar.specs.Names
 pub use Rattle.wac_parser_grammar.specs.ValueTypes
 pub use Rattle.wac_parser_grammar.specs.Expressions

@@ -47,8 +47,9 @@ pub mod laws {
     pub use crate::plain::plain_faults_leave_no_tree;
     pub use wac_parser_grammar::{
         deep_faults_are_deep, document_faults_stand, documents_are_read, documents_are_their_forms,
-        documents_have_forms, faults_stand, forms_are_taken, parsed_paths_stand, rules_are_exact,
-        rules_have_forms, rules_take_what_fits, trees_are_begun,
+        documents_have_forms, faults_stand, forms_are_taken, no_track_is_refused,
+        parsed_paths_stand, rules_are_exact, rules_have_forms, rules_take_what_fits,
+        trees_are_begun,
     };
     pub use wac_parser_lexer::{
         items_in_order, longest_token, only_longest_token, pieces_of_sources,
@@ -59,7 +60,7 @@ pub mod laws {
         list_faults_stand, lists_are_exact, optional_faults_stand, optionals_are_exact,
     };
     pub use wac_parser_resolve::{
-        askers_have_places, documents_are_wired, documents_mean_their_trees,
+        askers_have_places, choices_are_greatest, documents_are_wired, documents_mean_their_trees,
         examples as ascribed_examples, packages_are_known, packages_stay, refusals_stand,
         stated_types_are_proper, wirings_are_ordered,
     };

@@ -6,7 +6,7 @@ use Rattle.wac_parser_grammar.specs.Faults.{Fault, lexer, expected, expected_eit
 use Rattle.wac_parser_grammar.specs.Rules.{Rule}
 use Rattle.wac_parser_grammar.specs.Places.{here}
 use Rattle.wac_parser_grammar.specs.Nesting.{Nest, BeginsDeeper}
-use Rattle.wac_parser_grammar.specs.Standing.{Deepness, StandsBy}
+use Rattle.wac_parser_grammar.specs.Standing.{Saying, StandsBy}
 use Rattle.wac_parser_grammar.proofs.Faithful.{FaithfulBy, Any, Loose}
 use Rattle.wac_parser_grammar.proofs.Sinking.{Sinks, Sunk}
 
@@ -20,9 +20,9 @@ deeper nest n s span k = record {
   levels = omega (arith, k.moves);
 }
 
-module _ {N : Deepness} {nest : Nest} {n : ℕ} {X : Type 0} {m : X → ℕ} {p : Rule X} (loose : FaithfulBy Loose Any p) (sinks : Sinks nest n 0 m p)
-    (said : (s : Input) (span : SourceSpan) → BeginsDeeper nest n s span → N s span) where
-  by_kind : (s : Input) (f : Fault) → p.read s ≡ Err f → StandsBy Loose s f → StandsBy N s f
+module _ {N : Saying} {nest : Nest} {n : ℕ} {X : Type 0} {m : X → ℕ} {p : Rule X} (loose : FaithfulBy (Loose N.unread) Any p) (sinks : Sinks nest n 0 m p)
+    (said : (s : Input) (span : SourceSpan) → BeginsDeeper nest n s span → N.deep s span) where
+  by_kind : (s : Input) (f : Fault) → p.read s ≡ Err f → StandsBy (Loose N.unread) s f → StandsBy N s f
   by_kind s (nested_too_deep span) h k = (s, here, said s span (deeper nest n s span (sinks.deep s span h)))
   by_kind s (lexer e span) h k = k
   by_kind s (expected t found span) h k = k

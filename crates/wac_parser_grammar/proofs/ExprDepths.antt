@@ -4,11 +4,11 @@ use Rattle.wac_parser_lexer.specs.declared.token.Token.TheVariants as k
 use Rattle.wac_parser_tree.specs.Trees as t
 use Rattle.wac_parser_grammar.specs.Rules.{Rule}
 use Rattle.wac_parser_grammar.specs.Ahead.{same_token}
-use Rattle.wac_parser_grammar.specs.Names.{ident, string, package_name}
+use Rattle.wac_parser_grammar.specs.Names.{ident, string, new_package}
 use Rattle.wac_parser_grammar.specs.ValueTypes.{too_deep}
 use Rattle.wac_parser_grammar.specs.Expressions.{expr_first, postfix_first, argument_first, access_expr, named_access_expr, postfix_expr, spread_or_fill, nested_expr, argument_value, ident_argument, string_argument, instantiation_argument, new_expr, primary_expr, expr_level, expr}
 use Rattle.wac_parser_grammar.specs.Nesting.{expressions}
-use Rattle.wac_parser_grammar.proofs.Sinking.{Sinks, step, bind_sinks, pure_sinks, refuse_sinks, begin_sinks, begin_any_sinks, none_never, token_sinks, behind_sinks, ident_sinks, string_sinks, package_name_sinks, too_deep_sinks, list_sinks, while_sinks}
+use Rattle.wac_parser_grammar.proofs.Sinking.{Sinks, step, bind_sinks, pure_sinks, refuse_sinks, begin_sinks, begin_any_sinks, none_never, token_sinks, behind_sinks, ident_sinks, string_sinks, new_package_sinks, too_deep_sinks, list_sinks, while_sinks}
 
 opens_paren : (l : ℕ) → suc l + step expressions.closing k.OpenParen ≡ l + step expressions.opening k.OpenParen
 unfolding same_token
@@ -35,9 +35,9 @@ module _ {n : ℕ} where
   unfolding same_token
   text_sinks = string_sinks refl
 
-  name_sinks : {l : ℕ} → Sinks expressions n l (λ _. l) package_name
+  name_sinks : {l : ℕ} → Sinks expressions n l (λ _. l) new_package
   unfolding same_token
-  name_sinks = package_name_sinks refl
+  name_sinks = new_package_sinks refl
 
   access_sinks : {l : ℕ} → Sinks expressions n l (λ _. l) access_expr
   unfolding access_expr same_token

@@ -6,7 +6,7 @@ use Rattle.wac_parser_grammar.specs.Rules.{Rule}
 use Rattle.wac_parser_grammar.proofs.Exact.{Exact, Takes, Begins, bind, pure_exact, refuse_exact, begin_exact, begin_any_exact, token_exact, bind_takes, bind_keeps, still_keeps, pure_keeps, refuse_takes, token_takes, begin_takes, begin_keeps, begin_any_takes, begin_any_keeps, token_begins, bind_begins, refuse_begins, begin_begins}
 use Rattle.wac_parser_grammar.proofs.ExactLists.{list_exact, list_keeps, while_exact, while_keeps}
 use Rattle.wac_parser_grammar.specs.Expressions.{expr_first, postfix_first, argument_first, name_first, argument_name, access_expr, named_access_expr, postfix_expr, spread_or_fill, nested_expr, argument_value, named_argument, ident_argument, string_argument, instantiation_argument, new_expr, primary_expr, expr_level, expr, expression}
-use Rattle.wac_parser_grammar.proofs.NameLaws.{ident_exact, ident_takes, string_exact, string_takes, package_name_exact, package_name_takes}
+use Rattle.wac_parser_grammar.proofs.NameLaws.{ident_exact, ident_takes, string_exact, string_takes, new_package_exact, new_package_takes}
 
 pub argument_name_exact : Exact argument_name
 unfolding argument_name
@@ -123,11 +123,11 @@ module _ (inner : Rule t.Expr) (exact : Exact inner) (takes : Takes inner) where
 
   pub new_expr_exact : Exact (new_expr inner)
   unfolding new_expr
-  new_expr_exact = bind _ _ (token_exact k.NewKeyword) (λ v0. bind _ _ (package_name_exact) (λ v1. bind _ _ (token_exact k.OpenBrace) (λ v2. bind _ _ (list_exact (instantiation_argument inner) argument_first k.CloseBrace true instantiation_argument_exact instantiation_argument_begins instantiation_argument_takes) (λ v3. bind _ _ (token_exact k.CloseBrace) (λ v4. pure_exact _)))))
+  new_expr_exact = bind _ _ (token_exact k.NewKeyword) (λ v0. bind _ _ (new_package_exact) (λ v1. bind _ _ (token_exact k.OpenBrace) (λ v2. bind _ _ (list_exact (instantiation_argument inner) argument_first k.CloseBrace true instantiation_argument_exact instantiation_argument_begins instantiation_argument_takes) (λ v3. bind _ _ (token_exact k.CloseBrace) (λ v4. pure_exact _)))))
 
   pub new_expr_takes : Takes (new_expr inner)
   unfolding new_expr
-  new_expr_takes = bind_takes _ _ (token_takes k.NewKeyword) (λ v0. bind_keeps _ _ (still_keeps _ (package_name_takes)) (λ v1. bind_keeps _ _ (still_keeps _ (token_takes k.OpenBrace)) (λ v2. bind_keeps _ _ (list_keeps (instantiation_argument inner) argument_first k.CloseBrace true instantiation_argument_exact instantiation_argument_begins instantiation_argument_takes) (λ v3. bind_keeps _ _ (still_keeps _ (token_takes k.CloseBrace)) (λ v4. pure_keeps _)))))
+  new_expr_takes = bind_takes _ _ (token_takes k.NewKeyword) (λ v0. bind_keeps _ _ (still_keeps _ (new_package_takes)) (λ v1. bind_keeps _ _ (still_keeps _ (token_takes k.OpenBrace)) (λ v2. bind_keeps _ _ (list_keeps (instantiation_argument inner) argument_first k.CloseBrace true instantiation_argument_exact instantiation_argument_begins instantiation_argument_takes) (λ v3. bind_keeps _ _ (still_keeps _ (token_takes k.CloseBrace)) (λ v4. pure_keeps _)))))
 
   pub new_expr_begins : Begins (k.NewKeyword ∷ []) (new_expr inner)
   unfolding new_expr

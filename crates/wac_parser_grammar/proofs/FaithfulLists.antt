@@ -6,7 +6,7 @@ use Rattle.wac_parser_grammar.specs.Faults.{Fault}
 use Rattle.wac_parser_grammar.specs.Ahead.{sees, sees_any, none_of}
 use Rattle.wac_parser_grammar.specs.Rules.{Rule, and_then, behind, front, read_list, list_of, read_while, while_of, has_item, read_all, all_of, left}
 use Rattle.wac_parser_grammar.specs.Places.{IsBehind, here}
-use Rattle.wac_parser_grammar.specs.Standing.{Deepness, StandsBy}
+use Rattle.wac_parser_grammar.specs.Standing.{Saying, StandsBy}
 use Rattle.wac_parser_grammar.proofs.Lists.{begun_some}
 use Rattle.wac_parser_grammar.proofs.Exact.{Exact, Takes, inside, both}
 use Rattle.wac_parser_grammar.proofs.Faithful.{FaithfulBy, Any, err_inside, behind_trans, stands_behind, one_of, none_one, none_both, none_stands, stands_here, behind_faithful, behind_left}
@@ -35,7 +35,7 @@ none_begun : (b : Bool) (ks : List Token) (s : Input) → b ≡ sees_any ks s �
 none_begun false ks s e h = refl
 none_begun true ks s e h = let some = begun_some ks s (sym e) in absurd (omega (arith, some))
 
-module _ {N : Deepness} {X : Type 0} (p : Rule X) (first : List Token) (until : Token) (commas : Bool) (exact : Exact p) (takes : Takes p) (faithful : FaithfulBy N Any p) where
+module _ {N : Saying} {X : Type 0} (p : Rule X) (first : List Token) (until : Token) (commas : Bool) (exact : Exact p) (takes : Takes p) (faithful : FaithfulBy N Any p) where
   abbrev reads : ℕ → Input → Result (List X × Input) Fault
   reads = read_list p.read first until commas
 
@@ -97,7 +97,7 @@ module _ {N : Deepness} {X : Type 0} (p : Rule X) (first : List Token) (until : 
 
 -- ---- as long as a value begins
 
-module _ {N : Deepness} {X : Type 0} (p : Rule X) (first : List Token) (exact : Exact p) (takes : Takes p) (faithful : FaithfulBy N Any p) where
+module _ {N : Saying} {X : Type 0} (p : Rule X) (first : List Token) (exact : Exact p) (takes : Takes p) (faithful : FaithfulBy N Any p) where
   abbrev while_part : ℕ → X → Input → Result (List X × Input) Fault
   while_part n x m = front x (read_while p.read first n m)
 
@@ -131,7 +131,7 @@ module _ {N : Deepness} {X : Type 0} (p : Rule X) (first : List Token) (exact : 
 
 -- ---- to the end
 
-module _ {N : Deepness} {X : Type 0} (p : Rule X) (faithful : FaithfulBy N Any p) where
+module _ {N : Saying} {X : Type 0} (p : Rule X) (faithful : FaithfulBy N Any p) where
   abbrev all_part : ℕ → X → Input → Result (List X × Input) Fault
   all_part n x m = front x (read_all p.read n m)
 

@@ -1,6 +1,7 @@
 pub mod Lists
 pub mod Exact
 pub mod ExactLists
+pub mod TrackTests
 pub mod NameLaws
 pub mod TypeLaws
 pub mod ExprLaws

@@ -5,7 +5,8 @@ use Rattle.wac_parser_lexer.specs.declared.token.Token.TheVariants as k
 use Rattle.wac_parser_tree.specs.Trees as t
 use Rattle.wac_parser_grammar.proofs.Exact.{Exact, Takes, Keeps, Begins, bind, pure_exact, refuse_exact, look_exact, token_exact, bind_takes, bind_keeps, still_keeps, pure_keeps, look_keeps, refuse_takes, token_takes, token_begins, bind_begins, Silent}
 use Rattle.semver.specs.Parse.{version_parts}
-use Rattle.wac_parser_grammar.specs.Names.{docs, ident, string, version_read, version_by, version_of, behind_first, package_name, package_path}
+use Rattle.wac_parser_grammar.specs.Tracks.{track_in}
+use Rattle.wac_parser_grammar.specs.Names.{docs, ident, string, version_read, version_by, version_of, version_beside, behind_first, package_name, new_package, package_path}
 
 pub ident_exact : Exact ident
 unfolding ident
@@ -74,6 +75,22 @@ package_name_exact = bind _ _ (token_exact k.PackageName) (λ v0. bind _ _ (look
 pub package_name_takes : Takes package_name
 unfolding package_name
 package_name_takes = bind_takes _ _ (token_takes k.PackageName) (λ v0. bind_keeps _ _ (look_keeps _) (λ v1. bind_keeps _ _ (version_of_keeps v1 v0) (λ v2. pure_keeps _)))
+
+beside_exact : (track text : Option (List ℕ)) (span : SourceSpan) → Exact (version_beside track text span)
+beside_exact None text span = version_by_exact text span
+beside_exact (Some track) text span = pure_exact None
+
+beside_keeps : (track text : Option (List ℕ)) (span : SourceSpan) → Keeps (version_beside track text span)
+beside_keeps None text span = version_by_keeps text span
+beside_keeps (Some track) text span = pure_keeps None
+
+pub new_package_exact : Exact new_package
+unfolding new_package
+new_package_exact = bind _ _ (token_exact k.PackageName) (λ v0. bind _ _ (look_exact _) (λ v1. bind _ _ (beside_exact (track_in (behind_first 64 v1)) (behind_first 64 v1) v0) (λ v2. pure_exact _)))
+
+pub new_package_takes : Takes new_package
+unfolding new_package
+new_package_takes = bind_takes _ _ (token_takes k.PackageName) (λ v0. bind_keeps _ _ (look_keeps _) (λ v1. bind_keeps _ _ (beside_keeps (track_in (behind_first 64 v1)) (behind_first 64 v1) v0) (λ v2. pure_keeps _)))
 
 pub package_path_exact : Exact package_path
 unfolding package_path

@@ -1,5 +1,5 @@
 -- The names and paths of packages that are read stand in the source.
-use Rattle.std.proofs.Common.{◌≡◌, ℕ, inl, inr, List, [], ◌∷◌, ◌++◌, Option, Result, Ok, Err, refl, ap, sym, subst, ◌∙◌}
+use Rattle.std.proofs.Common.{◌≡◌, ℕ, inl, inr, Bool, true, false, List, [], ◌∷◌, ◌++◌, Option, Some, None, Result, Ok, Err, refl, ap, sym, subst, ◌∙◌, cond}
 use Rattle.std.specs.List.{All}
 use Rattle.std.proofs.lemmas.List.Elements.{All-head, All-tail}
 use Rattle.semver.specs.Parse.{version_parts}
@@ -17,8 +17,10 @@ use Rattle.wac_parser_tree.specs.Trees as t
 use Rattle.wac_parser_tree.specs.Segments.{IsPathIn}
 use Rattle.wac_parser_grammar.specs.Places.{IsBehind, here, on}
 use Rattle.wac_parser_grammar.specs.Rules.{token}
-use Rattle.wac_parser_grammar.specs.Names.{before, version_read, version_by, version_of, package_name, package_path}
-use Rattle.wac_parser_grammar.specs.Paths.{versioned, IsText, IsNameIn}
+use Rattle.wac_parser_grammar.specs.Tracks.{track_test, track_in}
+use Rattle.wac_parser_grammar.specs.Names.{before, behind_first, version_read, version_by, version_of, version_beside, package_name, new_package, package_path}
+use Rattle.wac_parser_grammar.specs.Paths.{versioned, IsText, IsNameIn, IsNewIn}
+use Rattle.wac_parser_grammar.proofs.TrackTests.{track_tells}
 use Rattle.wac_parser_grammar.proofs.PathTexts.{name_parts, path_parts}
 
 -- the items of the place lie in the source
@@ -58,6 +60,21 @@ name_versioned text form span v s m h = elim (name_parts text form) [
       version_text text w.0 w.1 (version_parts w.0) refl span v s m (subst P w.2 h))
 ]
 
+-- what stands behind the `@` of a name, where it has one
+text_behind : (text more : List ℕ) → IsPackageName text → behind_first 64 text ≡ Some more → text ≡ before 64 text ++ 64 ∷ more
+text_behind text more form e = elim (name_parts text form) [
+  | inl w ↦ absurd (none_some (sym w.1 ∙ e))
+  | inr w ↦
+      (let P : List ℕ → Type 0 = λ z. text ≡ before 64 text ++ 64 ∷ z in
+      subst P (some_same (sym w.2 ∙ e)) w.1)
+]
+  where
+    none_some : None ≡ Some more → ⊥
+    none_some e = cc
+
+    some_same : {z : List ℕ} → Some z ≡ Some more → z ≡ more
+    some_same e = cc
+
 module _ (source : List ℕ) (s : Input) (place : IsPlaceIn source s) where
   -- a token that is read stands at its span
   token_in : (kind : Token) (span : SourceSpan) (m : Input) → (token kind).Is span s m → IsSpanIn source span × IsToken kind (text_at source span)
@@ -80,6 +97,40 @@ module _ (source : List ℕ) (s : Input) (place : IsPlaceIn source s) where
       let parts = name_versioned h.3.0 form h.0 h.3.3.0 h.3.1 h.3.3.1 h.3.3.2 in
       let Q : t.PackageName → Type 0 = IsNameIn source in
       subst Q (sym h.3.3.3.0) (record { within = at.0; text = text; form = form; parts = parts })
+
+  -- the name that is made of the text, with what is read beside a track
+  abbrev made : List ℕ → SourceSpan → Option t.Version → t.PackageName
+  made text span v = record { string = text; name = before 64 text; version = v; span = span }
+
+  beside_stands : (text : List ℕ) (span : SourceSpan) (v : Option t.Version) (m r : Input) → IsSpanIn source span → text_at source span ≡ text → IsPackageName text
+      → (o : Option (List ℕ)) → behind_first 64 text ≡ o → (version_beside (track_in o) o span).Is v m r → IsNewIn source (made text span v) (track_in o)
+  unfolding version_of
+  beside_stands text span v m r within is form o e = by_text o e
+    where
+      versioned_one : (z : Option (List ℕ)) → behind_first 64 text ≡ z → (version_by z span).Is v m r → IsNameIn source (made text span v)
+      versioned_one z q g =
+          let P : Option (List ℕ) → Type 0 = λ y. (version_by y span).Is v m r in
+          record { within = within; text = is; form = form; parts = name_versioned text form span v m r (subst P (sym q) g) }
+
+      by : (more : List ℕ) (b : Bool) → track_test more ≡ b → behind_first 64 text ≡ Some more → (version_beside (cond b (Some more) None) (Some more) span).Is v m r
+          → IsNewIn source (made text span v) (cond b (Some more) None)
+      by more true t q g =
+          record { within = within; text = is; form = form; parts = text_behind text more form q; tracked = (track_tells more).0 t; unversioned = g.0 }
+      by more false t q g = versioned_one (Some more) q g
+
+      by_text : (z : Option (List ℕ)) → behind_first 64 text ≡ z → (version_beside (track_in z) z span).Is v m r → IsNewIn source (made text span v) (track_in z)
+      by_text None q g = versioned_one None q g
+      by_text (Some more) q g = by more (track_test more) refl q g
+
+  pub new_stands : (x : t.PackageName × Option (List ℕ)) (r : Input) → new_package.Is x s r → IsNewIn source x.0 x.1
+  unfolding new_package
+  new_stands x r h =
+      let at = token_in k.PackageName h.0 h.1 h.2 in
+      let text : text_at source h.0 ≡ h.3.0 = text_here k.PackageName h.0 h.1 h.2 ∙ sym h.3.2.0 in
+      let P : List ℕ → Type 0 = IsToken k.PackageName in
+      let form = name_text k.PackageName h.3.0 refl (subst P text at.1) in
+      let Q : t.PackageName × Option (List ℕ) → Type 0 = λ p. IsNewIn source p.0 p.1 in
+      subst Q (sym h.3.3.3.0) (beside_stands h.3.0 h.0 h.3.3.0 h.3.1 h.3.3.1 at.0 text form (behind_first 64 h.3.0) refl h.3.3.2)
 
   pub path_stands : (x : t.PackagePath) (r : Input) → package_path.Is x s r → IsPathIn source x
   unfolding package_path

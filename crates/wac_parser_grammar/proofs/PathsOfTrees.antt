@@ -7,18 +7,18 @@ use Rattle.wac_parser_lexer.specs.declared.token.Token.TheVariants as k
 use Rattle.wac_parser_tree.specs.Trees as t
 use Rattle.wac_parser_tree.specs.Segments.{IsPathIn}
 use Rattle.wac_parser_grammar.specs.Rules.{Rule}
-use Rattle.wac_parser_grammar.specs.Names.{docs, ident, string, package_name, package_path}
+use Rattle.wac_parser_grammar.specs.Names.{docs, ident, string, package_name, new_package, package_path}
 use Rattle.wac_parser_grammar.specs.ValueTypes.{func_first, func_type}
 use Rattle.wac_parser_grammar.specs.Expressions.{expr_first, postfix_first, argument_first, spread_or_fill, nested_expr, argument_value, ident_argument, string_argument, instantiation_argument, new_expr, primary_expr, expr_level, expr, expression}
 use Rattle.wac_parser_grammar.specs.Declarations.{type_decl_first, item_type_decl_first}
 use Rattle.wac_parser_grammar.specs.Worlds.{interface_item_first, world_item_first, use_path, use_types, interface_item, interface_items, interface_decl, inline_interface, extern_type, item_type, ident_path, world_item_path, world_import, world_export, world_ref, world_include, world_item, world_items, world_decl}
 use Rattle.wac_parser_grammar.specs.Documents.{type_statement_first, import_type, import_statement, let_statement, export_statement, type_statement, statement, targets, package_directive, document}
-use Rattle.wac_parser_grammar.specs.Paths.{IsNameIn}
+use Rattle.wac_parser_grammar.specs.Paths.{IsNameIn, IsNewIn}
 use Rattle.wac_parser_grammar.specs.PathsOfTrees.{EachInExpr, EachInPrimary, EachInNew, EachInArgument, EachInNamed, EachInNested, EachInArguments, EachInUsePath, EachInInterfaceItem, EachInExternType, EachInItemPath, EachInWorldRef, EachInWorldItem, EachInImportType, EachInTypeStatement, EachInStatement, EachInDirective, EachInDocument}
 use Rattle.wac_parser_grammar.proofs.ExactLists.{while_exact}
 use Rattle.wac_parser_grammar.proofs.FaithfulLists.{while_faithful}
-use Rattle.wac_parser_grammar.proofs.NameLaws.{docs_exact, ident_exact, string_exact, package_name_exact, package_path_exact}
-use Rattle.wac_parser_grammar.proofs.NameFaults.{docs_faithful, ident_faithful, string_faithful, package_name_faithful, package_path_faithful}
+use Rattle.wac_parser_grammar.proofs.NameLaws.{docs_exact, ident_exact, string_exact, package_name_exact, new_package_exact, package_path_exact}
+use Rattle.wac_parser_grammar.proofs.NameFaults.{docs_faithful, ident_faithful, string_faithful, package_name_faithful, new_package_faithful, package_path_faithful}
 use Rattle.wac_parser_grammar.proofs.TypeLaws.{func_type_exact}
 use Rattle.wac_parser_grammar.proofs.TypeFaults.{func_type_faithful}
 use Rattle.wac_parser_grammar.proofs.ExprLaws.{postfix_expr_exact, postfix_expr_takes}
@@ -29,24 +29,30 @@ use Rattle.wac_parser_grammar.proofs.WorldLaws.{use_items_exact, interface_expor
 use Rattle.wac_parser_grammar.proofs.WorldFaults.{use_items_faithful, interface_export_faithful, include_with_faithful}
 use Rattle.wac_parser_grammar.proofs.DocumentLaws.{import_name_exact, export_options_exact}
 use Rattle.wac_parser_grammar.proofs.DocumentFaults.{import_name_faithful, export_options_faithful}
-use Rattle.wac_parser_grammar.proofs.PathLaws.{name_stands, path_stands}
+use Rattle.wac_parser_grammar.proofs.PathLaws.{name_stands, new_stands, path_stands}
 use Rattle.wac_parser_grammar.proofs.Bringing.{Brings, Free, plain, bind_brings, pure_brings, refuse_brings, begin_brings, begin_any_brings, token_brings, optional_of_brings, list_brings, body_brings, all_brings}
 
-arguments_each : (P : t.PackageName → Type 0) (xs : List t.InstantiationArgument) → All (EachInArgument P) xs → EachInArguments P (t.arguments xs)
+arguments_each : (P : t.PackageName → Option (List ℕ) → Type 0) (xs : List t.InstantiationArgument) → All (EachInArgument P) xs → EachInArguments P (t.arguments xs)
 arguments_each P [] all = tt
 arguments_each P (x ∷ xs) all = (All-head (EachInArgument P) x xs all, arguments_each P xs (All-tail (EachInArgument P) x xs all))
 
 module _ (source : List ℕ) where
-  abbrev Name : t.PackageName → Type 0
-  Name = IsNameIn source
+  abbrev Name : t.PackageName → Option (List ℕ) → Type 0
+  Name = IsNewIn source
 
   abbrev Path : t.PackagePath → Type 0
   Path = IsPathIn source
 
-  name_brings : Brings source Name package_name
+  name_brings : Brings source (IsNameIn source) package_name
   name_brings = record {
     goes = λ s x r c h. (plain source package_name_exact package_name_faithful).goes s x r c h;
     brings = λ s x r c h. name_stands source s c x r h;
+  }
+
+  new_package_brings : Brings source (λ p. Name p.0 p.1) new_package
+  new_package_brings = record {
+    goes = λ s x r c h. (plain source new_package_exact (new_package_faithful (λ text h. tt))).goes s x r c h;
+    brings = λ s x r c h. new_stands source s c x r h;
   }
 
   path_brings : Brings source Path package_path
@@ -98,7 +104,7 @@ module _ (source : List ℕ) where
     new_brings : Brings source (EachInNew Name) (new_expr inner)
     unfolding new_expr
     new_brings =
-        bind_brings source _ _ (token_brings source k.NewKeyword) (λ v0 _. bind_brings source _ _ name_brings (λ v1 name. bind_brings source _ _ (token_brings source k.OpenBrace) (λ v2 _.
+        bind_brings source _ _ (token_brings source k.NewKeyword) (λ v0 _. bind_brings source _ _ new_package_brings (λ v1 name. bind_brings source _ _ (token_brings source k.OpenBrace) (λ v2 _.
         bind_brings source _ _ (list_brings source (EachInArgument Name) (instantiation_argument inner) argument_brings argument_first k.CloseBrace true) (λ v3 all.
         bind_brings source _ _ (token_brings source k.CloseBrace) (λ v4 _. pure_brings source _ (name, arguments_each Name v3 all))))))
 

@@ -13,7 +13,8 @@ use Rattle.wac_parser_grammar.specs.Ahead.{is_any, sees, sees_any, none_found, r
 use Rattle.wac_parser_grammar.specs.Rules.{Rule, fault_of_item, fault_ahead, sees_token, span_of_items, and_then, ◌>>=◌, pure, refuse, token, look, choose, begin, begin_any, unfaulty, optional, behind, front, read_list, list_of, read_while, while_of, left}
 use Rattle.wac_parser_grammar.specs.Places.{IsBehind, here}
 use Rattle.wac_parser_grammar.specs.Nesting.{Nest, among}
-use Rattle.wac_parser_grammar.specs.Names.{ident, string, behind_first, version_read, version_by, version_of, package_name}
+use Rattle.wac_parser_grammar.specs.Tracks.{track_in}
+use Rattle.wac_parser_grammar.specs.Names.{ident, string, behind_first, version_read, version_by, version_of, version_beside, package_name, new_package}
 use Rattle.wac_parser_grammar.specs.ValueTypes.{too_deep}
 use Rattle.wac_parser_grammar.proofs.Exact.{inside, both, token_exact, unfaulty_exact}
 use Rattle.wac_parser_grammar.proofs.Faithful.{behind_trans, err_inside, one_of, begun_here, token_fails, deep_fails, unfaulty_fails}
@@ -195,6 +196,14 @@ module _ {nest : Nest} {n : ℕ} where
   pub package_name_sinks : {l : ℕ} → l + step nest.closing k.PackageName ≡ l + step nest.opening k.PackageName → Sinks nest n l (λ _. l) package_name
   unfolding package_name version_of
   package_name_sinks {l = l} e = bind_sinks _ _ (token_sinks k.PackageName l l e) (λ v0. bind_sinks _ _ (look_sinks _) (λ v1. bind_sinks _ _ (by_sinks (behind_first 64 v1) v0) (λ v2. pure_sinks _)))
+
+  beside_sinks : {l : ℕ} (track text : Option (List ℕ)) (span : SourceSpan) → Sinks nest n l (λ _. l) (version_beside track text span)
+  beside_sinks None text span = by_sinks text span
+  beside_sinks (Some track) text span = pure_sinks None
+
+  pub new_package_sinks : {l : ℕ} → l + step nest.closing k.PackageName ≡ l + step nest.opening k.PackageName → Sinks nest n l (λ _. l) new_package
+  unfolding new_package
+  new_package_sinks {l = l} e = bind_sinks _ _ (token_sinks k.PackageName l l e) (λ v0. bind_sinks _ _ (look_sinks _) (λ v1. bind_sinks _ _ (beside_sinks (track_in (behind_first 64 v1)) (behind_first 64 v1) v0) (λ v2. pure_sinks _)))
 
   -- ---- where the depth is spent
 

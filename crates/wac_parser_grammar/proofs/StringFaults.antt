@@ -9,7 +9,7 @@ use Rattle.wac_parser_grammar.specs.Ahead.{sees}
 use Rattle.wac_parser_grammar.specs.Rules.{Rule, ◌>>=◌, begin, refuse}
 use Rattle.wac_parser_grammar.specs.Names.{string}
 use Rattle.wac_parser_grammar.specs.Places.{IsBehind}
-use Rattle.wac_parser_grammar.specs.Standing.{Deepness, StandsBy}
+use Rattle.wac_parser_grammar.specs.Standing.{Saying, StandsBy}
 use Rattle.wac_parser_grammar.proofs.NameLaws.{string_exact}
 use Rattle.wac_parser_grammar.proofs.Faithful.{FaithfulBy, Any, err_inside, behind_trans, stands_behind, one_of, stands_here}
 use Rattle.wac_parser_grammar.proofs.NameFaults.{string_faithful}
@@ -26,7 +26,7 @@ string_stood s x r h =
 not_ident : Some k.String ≢ Some k.Ident
 not_ident e = cc
 
-module _ {N : Deepness} {X : Type 0} (p : t.StringLiteral → Rule X) (faithful : (x : t.StringLiteral) → FaithfulBy N Any (p x)) where
+module _ {N : Saying} {X : Type 0} (p : t.StringLiteral → Rule X) (faithful : (x : t.StringLiteral) → FaithfulBy N Any (p x)) where
   abbrev fault : t.StringLiteral → Fault
   fault x = expected k.Ident (Some k.String) x.span
 

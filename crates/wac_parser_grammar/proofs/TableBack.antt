@@ -3,6 +3,7 @@ use Rattle.std.proofs.Common.{◌≡◌, ℕ, zero, suc, ◌≤◌, inl, inr, tr
 use Rattle.std.proofs.Math.Nat.{le-max_left, le-max_right}
 use Rattle.std.proofs.lemmas.Bool.{false_from_ne_true}
 use Rattle.semver.specs.declared.error.Error.{Error}
+use Rattle.wac_types_names.specs.Tracks.{IsTrack}
 use Rattle.wac_parser_lexer.specs.declared.span.SourceSpan.{SourceSpan}
 use Rattle.wac_parser_lexer.specs.declared.token.Token.{Token}
 use Rattle.wac_parser_lexer.specs.declared.token.Token.TheVariants as k
@@ -11,10 +12,12 @@ use Rattle.wac_parser_lexer.specs.Items.{Input, Item, first_of_items}
 use Rattle.wac_parser_tree.specs.Trees as t
 use Rattle.wac_parser_grammar.specs.Ahead.{same_token, token_of, is_token, is_any, next_token, sees, sees_any, none_of}
 use Rattle.wac_parser_grammar.specs.Rules.{Rule, ◌>>=◌, ◌>>◌, token, choose, begin, begin_any, pure, refuse, optional, comma, behind, list_of, IsListOf, fault_of_item, fault_ahead, has_token, sees_token}
+use Rattle.wac_parser_grammar.specs.Tracks.{track_in}
 use Rattle.wac_parser_grammar.specs.Names as n
 use Rattle.wac_parser_grammar.specs.ValueTypes as v
-use Rattle.wac_parser_grammar.specs.Forms.{At, Ident, Quoted, Version, PackageName, PackagePath, Ty, SomeTys, FurtherTys, Omitted, Second}
+use Rattle.wac_parser_grammar.specs.Forms.{At, Ident, Quoted, Version, VersionOrTrack, PackageName, NewPackage, PackagePath, Ty, SomeTys, FurtherTys, Omitted, Second}
 use Rattle.wac_parser_grammar.specs.FormDepths.{levels, levels_of, levels_in, Ends}
+use Rattle.wac_parser_grammar.proofs.TrackTests.{track_taken, other_left}
 use Rattle.wac_parser_grammar.proofs.Exact.{Begins, found_same}
 use Rattle.wac_parser_grammar.proofs.TypeLaws.{ty_begins}
 use Rattle.wac_parser_grammar.proofs.TableLaws.{apart}
@@ -116,6 +119,41 @@ package_name_back s x r h = (
     ),
   ),
 )
+
+beside_back : (o : Option (List ℕ)) (span : SourceSpan) (s : Input) (x : Option t.Version) (track : Option (List ℕ))
+    → VersionOrTrack o x track → (n.version_beside track o span).Is x s s × (track_in o ≡ track)
+beside_back None span s x None h = (version_by_back None span s x h.0, refl)
+beside_back (Some text) span s x None h = (version_by_back (Some text) span s x h.0, other_left text h.1)
+beside_back None span s x (Some track) h = cc
+beside_back (Some text) span s x (Some track) h =
+    let same : text ≡ track = cc in
+    ((h.2, refl), track_taken text (subst IsTrack (sym same) h.1) ∙ h.0)
+
+pub new_package_back : (s : Input) (x : t.PackageName × Option (List ℕ)) (r : Input) → NewPackage x s r → n.new_package.Is x s r
+unfolding n.new_package
+new_package_back s x r h =
+    let p = x.0 in
+    let v = beside_back (n.behind_first 64 p.string) p.span r p.version x.1 h.3 in
+    let P : Option (List ℕ) → Type 0 = λ z. (n.version_beside z (n.behind_first 64 p.string) p.span).Is p.version r r in (
+      p.span,
+      r,
+      h.0,
+      (
+        p.string,
+        r,
+        (h.1 ∙ ap (λ (i : Input). text_at i.source p.span) (sym h.0.3), refl),
+        (
+          p.version,
+          r,
+          subst P (sym v.1) v.0,
+          (
+            ap (λ (z : List ℕ). (record { string = p.string; name = z; version = p.version; span = p.span }, x.1)) h.2
+                ∙ ap (λ (z : Option (List ℕ)). (record { string = p.string; name = n.before 64 p.string; version = p.version; span = p.span }, z)) (sym v.1),
+            refl,
+          ),
+        ),
+      ),
+    )
 
 pub package_path_back : (s : Input) (x : t.PackagePath) (r : Input) → PackagePath x s r → n.package_path.Is x s r
 unfolding n.package_path

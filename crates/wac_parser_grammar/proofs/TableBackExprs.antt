@@ -12,7 +12,7 @@ use Rattle.wac_parser_grammar.specs.Forms.{At, Word, ◌⨾◌, Row, Further, Se
 use Rattle.wac_parser_grammar.specs.FormDepths.{AllFit, expression_levels, primary_levels, new_levels, argument_levels, named_levels, nested_levels, levels_of_arguments, ExpressionEnds, ArgumentEnds}
 use Rattle.wac_parser_grammar.proofs.Exact.{Begins}
 use Rattle.wac_parser_grammar.proofs.ExprLaws.{expr_exact, expr_takes, instantiation_argument_begins}
-use Rattle.wac_parser_grammar.proofs.TableBack.{seen, sees_at, any_at, ident_back, string_back, package_name_back}
+use Rattle.wac_parser_grammar.proofs.TableBack.{seen, sees_at, any_at, ident_back, string_back, new_package_back}
 use Rattle.wac_parser_grammar.proofs.TableBackFuncs.{list_taken}
 use Rattle.wac_parser_grammar.proofs.TableBackChoices.{other, no_two}
 
@@ -226,15 +226,15 @@ module _ (depth : ℕ) (inner : Rule t.Expr) (back : (s : Input) (x : t.Expr) (r
 
   pub new_expr_back : (s : Input) (x : t.NewExpr) (r : Input) → new_levels x ≤ depth → New x s r → (e.new_expr inner).Is x s r
   unfolding e.new_expr
-  new_expr_back s (t.NewExpr.new_expr span name xs) r few h =
+  new_expr_back s (t.NewExpr.new_expr span name track xs) r few h =
       let i = h.3.2.1 in (
         h.0,
         h.3.0,
         h.3.1,
         (
-          name,
+          (name, track),
           i.0,
-          package_name_back h.3.0 name i.0 i.1,
+          new_package_back h.3.0 (name, track) i.0 i.1,
           (
             i.2.1.0,
             i.2.0,
@@ -248,7 +248,7 @@ module _ (depth : ℕ) (inner : Rule t.Expr) (back : (s : Input) (x : t.Expr) (r
                 r,
                 h.3.2.2,
                 (
-                  ap (λ (z : t.Span). t.NewExpr.new_expr z name xs) h.2 ∙ ap (λ (z : t.Arguments). t.NewExpr.new_expr (through h.0 h.1) name z) (sym (arguments_again xs)),
+                  ap (λ (z : t.Span). t.NewExpr.new_expr z name track xs) h.2 ∙ ap (λ (z : t.Arguments). t.NewExpr.new_expr (through h.0 h.1) name track z) (sym (arguments_again xs)),
                   refl,
                 ),
               ),

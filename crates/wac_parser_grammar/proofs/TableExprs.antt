@@ -10,7 +10,7 @@ use Rattle.wac_parser_grammar.specs.Forms.{Further, Separated, Ident, ArgumentNa
 use Rattle.wac_parser_grammar.proofs.Exact.{Begins}
 use Rattle.wac_parser_grammar.proofs.ExprLaws.{expr_exact, expr_takes, instantiation_argument_begins}
 use Rattle.wac_parser_grammar.proofs.TableLaws.{Within, refuse_within, made, begin_within, begin_any_within, moved, list_within, while_within}
-use Rattle.wac_parser_grammar.proofs.TableTypes.{ident_within, string_within, package_name_within}
+use Rattle.wac_parser_grammar.proofs.TableTypes.{ident_within, string_within, new_package_within}
 
 pub argument_name_within : Within e.argument_name ArgumentName
 unfolding e.argument_name
@@ -96,7 +96,7 @@ module _ (inner : Rule t.Expr) (value : Within inner Expr) (begins : Begins e.ar
 
   pub new_expr_within : Within (e.new_expr inner) New
   unfolding e.new_expr
-  new_expr_within = record { within = λ s x r h. rw (h.3.3.3.3.3.0, h.3.3.3.3.3.1) (h.0, h.3.3.3.3.0, refl, (h.1, h.2, (h.3.3.3.1, (h.3.1, package_name_within.within h.1 h.3.0 h.3.1 h.3.2, (h.3.3.1, (h.3.3.0, h.3.3.2), listed h.3.3.3.0 h.3.3.1 h.3.3.3.1 h.3.3.3.2)), h.3.3.3.3.2))) }
+  new_expr_within = record { within = λ s x r h. rw (h.3.3.3.3.3.0, h.3.3.3.3.3.1) (h.0, h.3.3.3.3.0, refl, (h.1, h.2, (h.3.3.3.1, (h.3.1, new_package_within.within h.1 h.3.0 h.3.1 h.3.2, (h.3.3.1, (h.3.3.0, h.3.3.2), listed h.3.3.3.0 h.3.3.1 h.3.3.3.1 h.3.3.3.2)), h.3.3.3.3.2))) }
 
   pub primary_expr_within : Within (e.primary_expr inner) Primary
   unfolding e.primary_expr

@@ -1,5 +1,6 @@
 -- The rules of names and types accept only their plain forms.
-use Rattle.std.proofs.Common.{◌≡◌, ℕ, zero, suc, inl, inr, Bool, true, List, [], ◌∷◌, Option, Some, None, Result, Ok, Err, refl, ap, subst, sym, ◌∙◌}
+use Rattle.std.proofs.Common.{◌≡◌, ℕ, zero, suc, inl, inr, Bool, true, List, [], ◌∷◌, Option, Some, None, Result, Ok, Err, refl, ap, subst, sym, ◌∙◌, cond, false}
+use Rattle.std.proofs.lemmas.Bool.Decides.{not_from_Decides}
 use Rattle.semver.specs.Parse.{version_parts}
 use Rattle.semver.specs.declared.error.Error.{Error}
 use Rattle.wac_parser_lexer.specs.declared.span.SourceSpan.{SourceSpan}
@@ -10,9 +11,11 @@ use Rattle.wac_parser_lexer.specs.Items.{Input}
 use Rattle.wac_parser_tree.specs.Trees as t
 use Rattle.wac_parser_grammar.specs.Ahead.{same_token, none_of, sees_any}
 use Rattle.wac_parser_grammar.specs.Rules.{Rule, begin_any, refuse, list_of, IsListOf}
+use Rattle.wac_parser_grammar.specs.Tracks.{track_test, track_in}
 use Rattle.wac_parser_grammar.specs.Names as n
 use Rattle.wac_parser_grammar.specs.ValueTypes as v
-use Rattle.wac_parser_grammar.specs.Forms.{At, Word, Marked, Further, Separated, Docs, Ident, Quoted, Version, PackageName, PackagePath, Ty, SomeTys, FurtherTys, Omitted, Second, Payload, NamedType, Results, Parameters, FuncType, FuncTypeRef}
+use Rattle.wac_parser_grammar.specs.Forms.{At, Word, Marked, Further, Separated, Docs, Ident, Quoted, Version, VersionOrTrack, PackageName, NewPackage, PackagePath, Ty, SomeTys, FurtherTys, Omitted, Second, Payload, NamedType, Results, Parameters, FuncType, FuncTypeRef}
+use Rattle.wac_parser_grammar.proofs.TrackTests.{track_tells}
 use Rattle.wac_parser_grammar.proofs.Exact.{Begins}
 use Rattle.wac_parser_grammar.proofs.TypeLaws.{ty_begins, named_type_begins}
 use Rattle.wac_parser_grammar.proofs.TableLaws.{Within, refuse_within, made, begin_within, begin_any_within, word_within, optional_within, moved, landed, list_within, apart}
@@ -56,6 +59,26 @@ unfolding n.package_name
 package_name_within = record {
   within = λ s x r h.
       let v = version_of h.3.0 h.0 h.3.1 h.3.3.0 h.3.3.1 h.3.3.2 in
+      let text : h.3.0 ≡ text_at s.source h.0 = h.3.2.0 ∙ ap (λ (z : List ℕ). text_at z h.0) (source_of k.PackageName h.0 s h.1 h.2) in
+      rw (h.3.3.3.0, h.3.3.3.1 ∙ v.1 ∙ h.3.2.1) (h.2, text, refl, v.0);
+}
+
+-- what stands behind the `@` of a name is a track that is taken, or none, and what is read of it
+beside : (o : Option (List ℕ)) (span : SourceSpan) (s : Input) (x : Option t.Version) (r : Input)
+    → (n.version_beside (track_in o) o span).Is x s r → VersionOrTrack o x (track_in o) × (r ≡ s)
+beside None span s x r h = ((h.0, tt), h.1)
+beside (Some text) span s x r h = by (track_test text) refl h
+  where
+    by : (b : Bool) → track_test text ≡ b → (n.version_beside (cond b (Some text) None) (Some text) span).Is x s r
+        → VersionOrTrack (Some text) x (cond b (Some text) None) × (r ≡ s)
+    by true q g = ((refl, (track_tells text).0 q, g.0), g.1)
+    by false q g = let v = version_by (Some text) span s x r g in ((v.0, not_from_Decides (track_test text) (track_tells text) q), v.1)
+
+pub new_package_within : Within n.new_package NewPackage
+unfolding n.new_package
+new_package_within = record {
+  within = λ s x r h.
+      let v = beside (n.behind_first 64 h.3.0) h.0 h.3.1 h.3.3.0 h.3.3.1 h.3.3.2 in
       let text : h.3.0 ≡ text_at s.source h.0 = h.3.2.0 ∙ ap (λ (z : List ℕ). text_at z h.0) (source_of k.PackageName h.0 s h.1 h.2) in
       rw (h.3.3.3.0, h.3.3.3.1 ∙ v.1 ∙ h.3.2.1) (h.2, text, refl, v.0);
 }

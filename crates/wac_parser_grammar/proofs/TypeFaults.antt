@@ -13,12 +13,12 @@ use Rattle.wac_parser_grammar.specs.ValueTypes.{type_first, func_first, keyword_
 use Rattle.wac_parser_grammar.proofs.Exact.{Exact, Takes}
 use Rattle.wac_parser_grammar.proofs.TypeLaws.{ty_exact, ty_takes, named_type_exact, named_type_takes}
 use Rattle.wac_parser_grammar.proofs.Faithful.{Loose, FaithfulBy, narrow, none_left, none_right, none_is_any, too_deep_loose}
-use Rattle.wac_parser_grammar.specs.Standing.{Deepness, IsTooDeep}
+use Rattle.wac_parser_grammar.specs.Standing.{Saying, IsTooDeep}
 use Rattle.wac_parser_grammar.proofs.TypeDepths.{ty_sinks}
 use Rattle.wac_parser_grammar.proofs.DeepFaults.{deep_faithful}
 use Rattle.wac_parser_grammar.proofs.NameFaults.{ident_faithful}
 
-pub borrow_ty_faithful : {N : Deepness} → FaithfulBy N Any borrow_ty
+pub borrow_ty_faithful : {N : Saying} → FaithfulBy N Any borrow_ty
 unfolding borrow_ty
 borrow_ty_faithful = bind_faithful _ _ (token_faithful k.BorrowKeyword) (λ v0. bind_faithful _ _ (token_faithful k.OpenAngle) (λ v1. bind_faithful _ _ (ident_faithful) (λ v2. bind_faithful _ _ (token_faithful k.CloseAngle) (λ v3. pure_faithful _))))
 
@@ -59,7 +59,7 @@ no_keyword k.StringKeyword e = cc
 no_keyword k.ErrorContextKeyword e = cc
 no_keyword _ e = refl
 
-module _ {N : Deepness} (inner : Rule t.Ty) (exact : Exact inner) (takes : Takes inner) (faithful : FaithfulBy N Any inner) where
+module _ {N : Saying} (inner : Rule t.Ty) (exact : Exact inner) (takes : Takes inner) (faithful : FaithfulBy N Any inner) where
   pub tuple_ty_faithful : FaithfulBy N Any (tuple_ty inner)
   unfolding tuple_ty
   tuple_ty_faithful = bind_faithful _ _ (token_faithful k.TupleKeyword) (λ v0. bind_faithful _ _ (token_faithful k.OpenAngle) (λ v1. bind_faithful _ _ (begin_any_faithful type_first _ _ (list_faithful inner type_first k.CloseAngle true exact takes faithful) (refuse_faithful _ (λ s h. h.1))) (λ v2. bind_faithful _ _ (token_faithful k.CloseAngle) (λ v3. pure_faithful _))))
@@ -126,13 +126,13 @@ module _ {N : Deepness} (inner : Rule t.Ty) (exact : Exact inner) (takes : Takes
   }
 
 -- whatever is said of nesting
-ty_loose : (n : ℕ) → FaithfulBy Loose Any (ty n)
+ty_loose : (n : ℕ) → FaithfulBy (Loose (λ text. Unit {0})) Any (ty n)
 unfolding ty
 ty_loose zero = too_deep_loose type_first
 ty_loose (suc n) = ty_level_faithful (ty n) (ty_exact n) (ty_takes n) (ty_loose n)
 
 pub ty_faithful : (n : ℕ) → FaithfulBy (IsTooDeep n) Any (ty n)
-ty_faithful n = deep_faithful (ty_loose n) (ty_sinks n 0 (omega arith)) (λ s span h. inl h)
+ty_faithful n = deep_faithful {N = IsTooDeep n} (ty_loose n) (ty_sinks n 0 (omega arith)) (λ s span h. inl h)
 
 pub value_type_faithful : Faithful Any value_type
 unfolding value_type

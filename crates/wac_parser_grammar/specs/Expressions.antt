@@ -8,7 +8,7 @@ use Rattle.wac_parser_tree.specs.Accessors.{primary_expr_span, postfix_expr_span
 use Rattle.wac_parser_grammar.specs.Faults.{expected}
 use Rattle.wac_parser_grammar.specs.Ahead.{none_of}
 use Rattle.wac_parser_grammar.specs.Rules.{Rule, ◌>>=◌, ◌>>◌, pure, refuse, token, begin, begin_any, list_of, while_of}
-use Rattle.wac_parser_grammar.specs.Names.{ident, string, package_name}
+use Rattle.wac_parser_grammar.specs.Names.{ident, string, new_package}
 use Rattle.wac_parser_grammar.specs.ValueTypes.{through, too_deep}
 
 -- the tokens with which an expression begins
@@ -104,11 +104,11 @@ module _ (inner : Rule t.Expr) where
   unfoldable pub new_expr : Rule t.NewExpr
   new_expr = do
     start ← token k.NewKeyword
-    name ← package_name
+    named ← new_package
     token k.OpenBrace
     all ← list_of instantiation_argument argument_first k.CloseBrace true
     close ← token k.CloseBrace
-    pure (t.new_expr (through start close) name (t.arguments all))
+    pure (t.new_expr (through start close) named.0 named.1 (t.arguments all))
 
   unfoldable pub primary_expr : Rule t.PrimaryExpr
   primary_expr =

@@ -48,7 +48,7 @@ abbrev mutual
   primary_levels (t.PrimaryExpr.ident id) = 0
 
   pub new_levels : t.NewExpr → ℕ
-  new_levels (t.NewExpr.new_expr span name arguments) = levels_of_arguments arguments
+  new_levels (t.NewExpr.new_expr span name track arguments) = levels_of_arguments arguments
 
   pub argument_levels : t.InstantiationArgument → ℕ
   argument_levels (t.InstantiationArgument.inferred id) = 0
@@ -220,6 +220,7 @@ pub record FormsAreTaken : Type 0 where
   pub ident : IsTaken n.ident f.Ident Always Always
   pub string : IsTaken n.string f.Quoted Always Always
   pub package_name : IsTaken n.package_name f.PackageName Always Always
+  pub new_package : IsTaken n.new_package f.NewPackage Always Always
   pub package_path : IsTaken n.package_path f.PackagePath Always Always
   pub value_type : IsTaken v.value_type f.Ty (λ x. levels x ≤ 128) (Ends k.OpenAngle)
   pub named_type : IsTaken v.named_type f.NamedType NamedFits (Ends k.OpenAngle)

@@ -23,6 +23,7 @@ pub record RulesHaveForms : Type 0 where
   pub ident : HasForm n.ident f.Ident
   pub string : HasForm n.string f.Quoted
   pub package_name : HasForm n.package_name f.PackageName
+  pub new_package : HasForm n.new_package f.NewPackage
   pub package_path : HasForm n.package_path f.PackagePath
   pub value_type : HasForm v.value_type f.Ty
   pub named_type : HasForm v.named_type f.NamedType

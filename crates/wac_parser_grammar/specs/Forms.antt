@@ -1,6 +1,7 @@
 -- The forms of the language: which items spell a tree, from one place up to another. Nothing is said of how they are found.
-use Rattle.std.specs.Prelude.{◌≡◌, ℕ, Bool, true, false, List, [], ◌∷◌, map, Option, Some, None, unwrap_or, Ok, ◌⊎◌}
+use Rattle.std.specs.Prelude.{◌≡◌, ℕ, Bool, true, false, List, [], ◌∷◌, map, Option, Some, None, unwrap_or, Ok, ◌⊎◌, IfSome}
 use Rattle.semver.specs.Parse.{version_parts}
+use Rattle.wac_types_names.specs.Tracks.{IsTrack}
 use Rattle.wac_parser_lexer.specs.declared.token.Token.{Token}
 use Rattle.wac_parser_lexer.specs.declared.token.Token.TheVariants as k
 use Rattle.wac_parser_lexer.specs.Pieces.{text_at}
@@ -102,6 +103,17 @@ abbrev pub PackageName : t.PackageName → Part
 PackageName x s r =
     At k.PackageName x.span s r × (x.string ≡ text_at s.source x.span) × (x.name ≡ before 64 x.string)
     × Version (behind_first 64 x.string) x.version
+
+-- a version and no track, or a track and no version
+abbrev pub VersionOrTrack : Option (List ℕ) → Option t.Version → Option (List ℕ) → Type 0
+VersionOrTrack text version None = Version text version × IfSome text (λ z. IsTrack z → ⊥)
+VersionOrTrack text version (Some track) = (text ≡ Some track) × IsTrack track × (version ≡ None)
+
+-- the package of a `new`: a name, and behind an `@` its version, or a version track
+abbrev pub NewPackage : t.PackageName × Option (List ℕ) → Part
+NewPackage p s r =
+    At k.PackageName p.0.span s r × (p.0.string ≡ text_at s.source p.0.span) × (p.0.name ≡ before 64 p.0.string)
+    × VersionOrTrack (behind_first 64 p.0.string) p.0.version p.1
 
 -- before the `@` a name, a slash and segments
 abbrev pub PackagePath : t.PackagePath → Part
@@ -212,8 +224,8 @@ abbrev mutual
   Primary (t.PrimaryExpr.ident id) = Ident id
 
   pub New : t.NewExpr → Part
-  New (t.NewExpr.new_expr span name arguments) =
-      Between k.NewKeyword (PackageName name ⨾ Word k.OpenBrace ⨾ Arguments arguments) k.CloseBrace span
+  New (t.NewExpr.new_expr span name track arguments) =
+      Between k.NewKeyword (NewPackage (name, track) ⨾ Word k.OpenBrace ⨾ Arguments arguments) k.CloseBrace span
 
   -- `...` alone fills
   pub Argument : t.InstantiationArgument → Part

@@ -9,7 +9,7 @@ use Rattle.wac_parser_lexer.specs.Refused.{first_refused}
 use Rattle.wac_parser_tree.specs.Trees as t
 use Rattle.wac_parser_grammar.specs.Faults.{Fault, lexer}
 use Rattle.wac_parser_grammar.specs.Ahead.{sees_any}
-use Rattle.wac_parser_grammar.specs.Standing.{Stands}
+use Rattle.wac_parser_grammar.specs.Standing.{Saying, StandsBy, IsTooDeep, IsUntracked, Stands}
 use Rattle.wac_parser_grammar.specs.Places.{IsBehind}
 use Rattle.wac_parser_grammar.specs.Rules.{Rule, left, list_of, optional_of}
 use Rattle.wac_parser_grammar.specs.Rules as r
@@ -39,6 +39,7 @@ pub record RulesAreExact : Type 0 where
   pub ident : IsExact n.ident
   pub string : IsExact n.string
   pub package_name : IsExact n.package_name
+  pub new_package : IsExact n.new_package
   pub package_path : IsExact n.package_path
   pub value_type : IsExact v.value_type
   pub named_type : IsExact v.named_type
@@ -158,11 +159,14 @@ IsDocument d source = (first_refused source ≡ None) × (end : Input) × (end.i
 abbrev pub DocumentsAreRead : Type 0
 DocumentsAreRead = (source : List ℕ) (d : t.Document) → (read_source s.document source ≡ Ok d) ↔ IsDocument d source
 
--- A value is read up to a place behind items of this one. Each fault that the rule meets, with room for so many levels, stands
--- here or at such a place.
-pub record FaultsStandWithin {X : Type 0} (n : ℕ) (p : Rule X) : Type 0 where
+-- A value is read up to a place behind items of this one. Each fault that the rule meets stands here or at such a place.
+pub record FaultsStandBy {X : Type 0} (said : Saying) (p : Rule X) : Type 0 where
   pub goes_on : (s : Input) (x : X) (r : Input) → p.read s ≡ Ok (x, r) → IsBehind r s
-  pub stands : (s : Input) (fault : Fault) → p.read s ≡ Err fault → Stands n s fault
+  pub stands : (s : Input) (fault : Fault) → p.read s ≡ Err fault → StandsBy said s fault
+
+-- with room for so many levels
+abbrev pub FaultsStandWithin : {X : Type 0} → ℕ → Rule X → Type 0
+FaultsStandWithin n p = FaultsStandBy (IsTooDeep n) p
 
 -- the same with room for all levels
 abbrev pub FaultsStand : {X : Type 0} → Rule X → Type 0
@@ -176,6 +180,7 @@ pub record AllFaultsStand : Type 0 where
   pub ident : FaultsStand n.ident
   pub string : FaultsStand n.string
   pub package_name : FaultsStand n.package_name
+  pub new_package : FaultsStand n.new_package
   pub package_path : FaultsStand n.package_path
   pub value_type : FaultsStand v.value_type
   pub named_type : FaultsStand v.named_type
@@ -234,6 +239,18 @@ pub record AllFaultsStand : Type 0 where
   pub statement : FaultsStand s.statement
   pub package_directive : FaultsStand s.package_directive
   pub document : FaultsStand s.document
+
+-- The rules of a `new` and of what holds it: a text that they refuse as a version is no version track.
+pub record NoTrackIsRefused : Type 0 where
+  pub new_package : FaultsStandBy (IsUntracked 128) n.new_package
+  pub expression : FaultsStandBy (IsUntracked 128) e.expression
+  pub instantiation_argument : (depth : ℕ) → FaultsStandBy (IsUntracked depth) (e.instantiation_argument (e.expr depth))
+  pub named_argument : (depth : ℕ) → FaultsStandBy (IsUntracked depth) (e.named_argument (e.expr depth))
+  pub nested_expr : (depth : ℕ) → FaultsStandBy (IsUntracked (suc depth)) (e.nested_expr (e.expr depth))
+  pub new_expr : (depth : ℕ) → FaultsStandBy (IsUntracked (suc depth)) (e.new_expr (e.expr depth))
+  pub primary_expr : (depth : ℕ) → FaultsStandBy (IsUntracked (suc depth)) (e.primary_expr (e.expr depth))
+  pub let_statement : FaultsStandBy (IsUntracked 128) s.let_statement
+  pub export_statement : FaultsStandBy (IsUntracked 128) s.export_statement
 
 -- The fault stands in the source: it is its first refused character, or stands where its items are.
 abbrev pub StandsIn : List ℕ → Fault → Type 0

@@ -3,6 +3,7 @@ pub mod Faults
 pub mod Ahead
 pub mod Rules
 pub mod Reads
+pub mod Tracks
 pub mod Names
 pub mod ValueTypes
 pub mod Expressions

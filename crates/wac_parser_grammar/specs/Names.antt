@@ -8,6 +8,7 @@ use Rattle.wac_parser_lexer.specs.declared.token.Token.TheVariants as k
 use Rattle.wac_parser_lexer.specs.Items.{Doc, docs_ahead}
 use Rattle.wac_parser_tree.specs.Trees as t
 use Rattle.wac_parser_grammar.specs.Faults.{invalid_version}
+use Rattle.wac_parser_grammar.specs.Tracks.{track_in}
 use Rattle.wac_parser_grammar.specs.Rules.{Rule, ◌>>=◌, pure, refuse, token, look, slice}
 
 abbrev pub doc_comment : Doc → t.DocComment
@@ -75,6 +76,19 @@ package_name = do
   text ← slice span
   version ← version_of text span
   pure (record { string = text; name = before 64 text; version = version; span = span })
+
+-- beside a track there is no version
+abbrev pub version_beside : Option (List ℕ) → Option (List ℕ) → SourceSpan → Rule (Option t.Version)
+version_beside None text span = version_by text span
+version_beside (Some track) text span = pure None
+
+-- the package of a `new`, and the version track that may stand in place of its version
+unfoldable pub new_package : Rule (t.PackageName × Option (List ℕ))
+new_package = do
+  span ← token k.PackageName
+  text ← slice span
+  version ← version_beside (track_in (behind_first 64 text)) (behind_first 64 text) span
+  pure (record { string = text; name = before 64 text; version = version; span = span }, track_in (behind_first 64 text))
 
 unfoldable pub package_path : Rule t.PackagePath
 package_path = do

@@ -1,11 +1,11 @@
--- What holds of each name and path of a package that a tree holds.
-use Rattle.std.specs.Prelude.{IfSome}
+-- What holds of each name and path of a package that a tree holds, of a name with the version track beside it.
+use Rattle.std.specs.Prelude.{ℕ, List, Option, None, IfSome}
 use Rattle.std.specs.List.{All}
 use Rattle.wac_parser_tree.specs.Trees as t
 
 -- ---- each name
 
-module _ (Holds : t.PackageName → Type 0) where
+module _ (Holds : t.PackageName → Option (List ℕ) → Type 0) where
   -- of an expression
   abbrev mutual
     pub EachInExpr : t.Expr → Type 0
@@ -17,7 +17,7 @@ module _ (Holds : t.PackageName → Type 0) where
     EachInPrimary (t.PrimaryExpr.ident id) = Unit {0}
 
     pub EachInNew : t.NewExpr → Type 0
-    EachInNew (t.NewExpr.new_expr span name arguments) = Holds name × EachInArguments arguments
+    EachInNew (t.NewExpr.new_expr span name track arguments) = Holds name track × EachInArguments arguments
 
     pub EachInArgument : t.InstantiationArgument → Type 0
     EachInArgument (t.InstantiationArgument.named x) = EachInNamed x
@@ -81,7 +81,7 @@ module _ (Holds : t.PackagePath → Type 0) where
 
 -- ---- each of both
 
-module _ (Name : t.PackageName → Type 0) (Path : t.PackagePath → Type 0) where
+module _ (Name : t.PackageName → Option (List ℕ) → Type 0) (Path : t.PackagePath → Type 0) where
   abbrev pub EachInStatement : t.Statement → Type 0
   EachInStatement (t.Statement.import x) = EachInImportType Path x.ty
   EachInStatement (t.Statement.ty x) = EachInTypeStatement Path x
@@ -89,7 +89,7 @@ module _ (Name : t.PackageName → Type 0) (Path : t.PackagePath → Type 0) whe
   EachInStatement (t.Statement.export x) = EachInExpr Name x.expr
 
   abbrev pub EachInDirective : t.PackageDirective → Type 0
-  EachInDirective d = Name d.«package» × IfSome d.targets Path
+  EachInDirective d = Name d.«package» None × IfSome d.targets Path
 
   abbrev pub EachInDocument : t.Document → Type 0
   EachInDocument d = EachInDirective d.directive × All EachInStatement d.statements

@@ -1,6 +1,6 @@
 //! What holds of the definitions, for those who reason by them.
 
-ghost use Rattle.wac_parser_grammar.specs.Laws.{RulesAreExact, TreesAreBegun, DocumentsAreRead, AllFaultsStand, DocumentFaultsStand};
+ghost use Rattle.wac_parser_grammar.specs.Laws.{RulesAreExact, TreesAreBegun, DocumentsAreRead, AllFaultsStand, NoTrackIsRefused, DocumentFaultsStand};
 ghost use Rattle.wac_parser_grammar.specs.Nesting.{DeepFaultsAreDeep};
 ghost use Rattle.wac_parser_grammar.specs.Paths.{ParsedPathsStand};
 
@@ -24,6 +24,11 @@ pub fn documents_are_read()
 /// stands there: no expected token does.
 pub fn faults_stand()
     ensures { AllFaultsStand }
+{}
+
+/// A text that is refused as a version where a version track could stand is no track.
+pub fn no_track_is_refused()
+    ensures { NoTrackIsRefused }
 {}
 
 /// A source that is not read as a document has a fault that stands in it.

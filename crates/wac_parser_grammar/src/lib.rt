@@ -12,5 +12,5 @@ pub use forms::{
 };
 pub use laws::{
     deep_faults_are_deep, document_faults_stand, documents_are_read, faults_stand,
-    parsed_paths_stand, rules_are_exact, trees_are_begun,
+    no_track_is_refused, parsed_paths_stand, rules_are_exact, trees_are_begun,
 };

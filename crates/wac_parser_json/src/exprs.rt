@@ -7,7 +7,7 @@ ghost use Rattle.wac_parser_tree.specs.Views.{view_access_expr, view_expr, view_
 ghost use Rattle.wac_parser_print.specs.Values as values;
 ghost use Rattle.wac_parser_json.specs.Writers.{Writes};
 
-use crate::names::{ident, package_name, span, string_literal};
+use crate::names::{ident, package_name, span, string_literal, track};
 use crate::parts::{Part, array, object};
 use crate::writer::JsonWriter;
 use wac_parser_tree::{
@@ -103,7 +103,8 @@ fn new_expr<W: ByteSink>(made: &NewExpr<'_>, out: &mut JsonWriter<'_, W>)
     object!(out; {
         "arguments": arguments(&made.arguments, out),
         "package": package_name(&made.package, out),
-        "span": span(made.span, out)
+        "span": span(made.span, out),
+        "track": track(made.track, out)
     });
 }
 

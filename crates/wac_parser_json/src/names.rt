@@ -71,6 +71,16 @@ fn version<W: ByteSink>(version: &Option<Version>, out: &mut JsonWriter<'_, W>)
     }
 }
 
+/// Writes the text of a version track, or `null`.
+pub(crate) fn track<W: ByteSink>(track: Option<&str>, out: &mut JsonWriter<'_, W>)
+    ensures { Writes W.contents W.calls out.old (objects.or_null string (option_map (λ t. t.now) track.entry)) out.new }
+{
+    match track {
+        Some(track) => out.string(track),
+        None => out.word("null"),
+    }
+}
+
 pub(crate) fn ident<W: ByteSink>(id: &Ident<'_>, out: &mut JsonWriter<'_, W>)
     ensures { Writes W.contents W.calls out.old (values.ident (view_ident id.now)) out.new }
 {

@@ -287,7 +287,7 @@ unfoldable mutual
   nested_expr level (t.nested_expr span x) = word (codes "(") >> expr level x >> word (codes ")")
 
   pub new_expr : ℕ → t.NewExpr → Text
-  new_expr level (t.new_expr span name xs) =
+  new_expr level (t.new_expr span name track xs) =
       word (codes "new ") >> slice name.span >> word (codes " {") >> arguments level xs >> word (codes "}")
 
   -- nothing, the fill alone, or a line for each

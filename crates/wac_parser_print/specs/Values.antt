@@ -281,8 +281,9 @@ unfoldable mutual
   nested_expr (t.nested_expr at x) = object_of ((codes "span", span at) ∷ (codes "inner", expr x) ∷ [])
 
   pub new_expr : t.NewExpr → Data
-  new_expr (t.new_expr at name xs) =
-      object_of ((codes "span", span at) ∷ (codes "package", package_name name) ∷ (codes "arguments", array (arguments xs)) ∷ [])
+  new_expr (t.new_expr at name track xs) =
+      object_of ((codes "span", span at) ∷ (codes "package", package_name name) ∷ (codes "track", or_null string track)
+      ∷ (codes "arguments", array (arguments xs)) ∷ [])
 
   pub arguments : t.Arguments → Items
   arguments t.no_arguments = no_items

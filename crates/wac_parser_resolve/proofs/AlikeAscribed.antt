@@ -15,15 +15,13 @@ use Rattle.wac_composition.proofs.Renamed.{keeps_meaning}
 use Rattle.wac_composition.proofs.SameWiring.{itself, wiring_kept}
 use Rattle.wac_parser_tree.specs.Trees as t
 use Rattle.wac_parser_tree.specs.Bare.{nowhere, bare}
-use Rattle.wac_parser_tree.specs.Named.{packages_named}
 use Rattle.wac_parser_refusals.specs.Causes.{Answer, ◌>>◌, pure}
 use Rattle.wac_parser_refusals.proofs.Alike.{IsAlike, both, neither, AreSame, then_alike, next_alike}
 use Rattle.wac_parser_declare.specs.Packages.{Content}
-use Rattle.wac_parser_declare.proofs.AlikeScopes.{AreSameIn}
-use Rattle.wac_parser_resolve.specs.Ascribing.{Denoted, Made, Import, Bound, State, worlds_of}
+use Rattle.wac_parser_resolve.specs.Ascribing.{Denoted, Made, Import, Bound, State}
 use Rattle.wac_parser_resolve.specs.Meeting.{resolved}
 use Rattle.wac_parser_resolve.specs.Ascribed.{Asker, by_import, by_instance, by_definition, argument_in, numbered, placed_import, placed_definition, composition, unless_cause, ascribed, said_export}
-use Rattle.wac_parser_resolve.specs.Laws.{AreWiredAlike, Acceptance_is_of_trees, Wiring_is_of_trees}
+use Rattle.wac_parser_resolve.specs.Laws.{AreWiredAlike, NamesTheSame, Acceptance_is_of_trees, Wiring_is_of_trees}
 use Rattle.wac_parser_resolve.proofs.Answers.{err_ok, ok_is}
 use Rattle.wac_parser_resolve.proofs.AlikeStates.{bare_asked, bare_made, bare_exports, bare_over}
 use Rattle.wac_parser_resolve.proofs.AlikeTargets.{resolved_alike}
@@ -104,7 +102,10 @@ uncaused qs define r =
     meaning : KeepsMeaning bare_asker itself (composition r.0)
     meaning = keeps_meaning bare_asker itself (composition r.0)
 
-ascribed_alike : (ps qs : List (Key × Content)) (define : Bool) (d : t.Document) → AreSameIn (worlds_of ps) (worlds_of qs) (packages_named d) → AreAscribedAlike qs (ascribed define d ps) (ascribed define (bare d) qs)
+names_itself : (d : t.Document) (ps : List (Key × Content)) → NamesTheSame d ps ps
+names_itself d ps = record { packages = λ k m. refl; tracks = λ x m. record { greatest = refl; world = λ v e. refl } }
+
+ascribed_alike : (ps qs : List (Key × Content)) (define : Bool) (d : t.Document) → NamesTheSame d ps qs → AreAscribedAlike qs (ascribed define d ps) (ascribed define (bare d) qs)
 ascribed_alike ps qs define d h = then_alike _ _ (resolved_alike ps qs d h) (uncaused qs define)
 
 -- the readings of one composition are wired the same
@@ -124,11 +125,11 @@ joined qs (neither c d) (both r) e = absurd (err_ok d _ (sym e))
 joined qs (neither c d) (neither f g) e = tt
 
 pub wiring_is_of_trees : Wiring_is_of_trees
-wiring_is_of_trees d e ps qs define same h = joined qs (ascribed_alike ps qs define d h) (ascribed_alike qs qs define e (λ k m. refl)) (ap (λ t. ascribed define t qs) same)
+wiring_is_of_trees d e ps qs define same h = joined qs (ascribed_alike ps qs define d h) (ascribed_alike qs qs define e (names_itself e qs)) (ap (λ t. ascribed define t qs) same)
 
 accepted_alike : {A B C : Type 0} {f : A → B} {g : A → C} {q : Answer B} {r : Answer C} → IsAlike f g q r → is_ok q ≡ is_ok r
 accepted_alike (both a) = refl
 accepted_alike (neither c d) = refl
 
 pub acceptance_is_of_trees : Acceptance_is_of_trees
-acceptance_is_of_trees d e ps qs same h = accepted_alike (resolved_alike ps qs d h) ∙ ap (λ t. is_ok (resolved t qs)) same ∙ sym (accepted_alike (resolved_alike qs qs e (λ k m. refl)))
+acceptance_is_of_trees d e ps qs same h = accepted_alike (resolved_alike ps qs d h) ∙ ap (λ t. is_ok (resolved t qs)) same ∙ sym (accepted_alike (resolved_alike qs qs e (names_itself e qs)))

@@ -1,7 +1,9 @@
 -- Expressions denote the same whatever the spans are, and over packages that are the same where they are named.
-use Rattle.std.specs.Prelude.{ℕ, Bool, true, false, not, ◌&&◌, List, [], ◌∷◌, ◌++◌, map, length, Option, Some, None, is_some, filter, find, ⊤, bytes_eq}
+use Rattle.std.specs.Prelude.{ℕ, Bool, true, false, not, ◌&&◌, List, [], ◌∷◌, ◌++◌, map, length, Option, Some, None, is_some, filter, find, ⊤, bytes_eq, option_map}
 use Rattle.std.proofs.Common.{◌≡◌, refl, sym, ap, subst, inl, inr}
 use Rattle.std.proofs.lemmas.List.{map-append, length-map}
+use Rattle.std.proofs.lemmas.Option.{same_Some}
+use Rattle.semver.specs.Parse.{Parts}
 use Rattle.wac_types_base.specs.Entries.{Name, value_at, names_of, has_name}
 use Rattle.wac_types_base.specs.Stated.{Stated, kind_of, exports_of, imports_of, instance_type}
 use Rattle.wac_types_names.specs.Keys.{Key}
@@ -10,15 +12,17 @@ use Rattle.wac_composition.specs.Classes.{is_instance_kind}
 use Rattle.wac_parser_tree.specs.Trees as t
 use Rattle.wac_parser_tree.specs.Trees.{Span}
 use Rattle.wac_parser_tree.specs.Bare.{nowhere, bare_ident, bare_package_name, bare_postfix, bare_expr, bare_primary, bare_new, bare_nested, bare_arguments, bare_argument, bare_named_argument, bare_argument_name}
-use Rattle.wac_parser_tree.specs.Named.{Named, in_expr, in_primary, in_new, in_nested, in_arguments, in_argument, in_named_argument}
+use Rattle.wac_parser_tree.specs.Named.{Named, Tracked, from_expr, from_primary, from_new, from_nested, from_arguments, from_argument, from_named_argument, in_expr, in_new, track_in_new}
 use Rattle.wac_parser_tree.specs.Accessors.{argument_name_span, postfix_expr_span, primary_expr_span}
 use Rattle.wac_parser_refusals.specs.declared.error.InstanceOperation.{InstanceOperation}
-use Rattle.wac_parser_refusals.specs.Causes.{Answer, pure, each, DuplicateInstantiationArg}
-use Rattle.wac_parser_refusals.proofs.Alike.{IsAlike, both, neither, itself, AreSame, then_alike, next_alike, clear_alike, clear_same, needs_alike, present_same, each_alike, each_same, front_holds, back_holds}
+use Rattle.wac_parser_refusals.specs.Causes.{Answer, ◌>>=◌, pure, present, each, DuplicateInstantiationArg, UnknownPackage}
+use Rattle.wac_parser_refusals.proofs.Alike.{IsAlike, both, neither, itself, AreSame, then_alike, next_alike, clear_alike, clear_same, needs_alike, present_same, each_alike, each_same, HoldsIn, front_holds, back_holds}
 use Rattle.wac_parser_declare.specs.Packages.{Content}
 use Rattle.wac_parser_declare.proofs.AlikeScopes.{IsSameIn, AreSameIn, package_alike}
 use Rattle.wac_parser_resolve.specs.Ascribing.{Denoted, Made, State, instance, worlds_of}
-use Rattle.wac_parser_resolve.specs.Denoting.{needs_instance, export_by, export_named, access_by, access, accesses, Given, given_names, add_given, inferred_name, argument_name, left_names, spread_given, spread_all, spread_one, spreads_of, compared_by, argument_fits, none_missing, complete, is_filled, is_last, with_made, finished, new_package, denote, primary, nested, new_instance, arguments, one_argument, named_argument}
+use Rattle.wac_parser_resolve.specs.Choosing.{greatest_on}
+use Rattle.wac_parser_resolve.specs.Laws.{ChoosesTheSame}
+use Rattle.wac_parser_resolve.specs.Denoting.{needs_instance, export_by, export_named, access_by, access, accesses, Given, given_names, add_given, inferred_name, argument_name, left_names, spread_given, spread_all, spread_one, spreads_of, compared_by, argument_fits, none_missing, complete, is_filled, is_last, with_made, finished, version_key, under_key, new_package, denote, primary, nested, new_instance, arguments, one_argument, named_argument}
 use Rattle.wac_parser_resolve.proofs.AlikeStates.{bare_made, over, bare_over, denoted_alike, IsDenotedAlike, spoken_alike}
 
 -- ---- accesses
@@ -107,18 +111,44 @@ module _ (ps qs : List (Key × Content)) where
       read : List Made → ℕ → State × Denoted
       read ms k = (record (bare_over qs g) { made = ms }, record { origin = instance k; item = instance_type m.world })
 
-  finished_alike : (g : State) (p : t.PackageName) (w : Stated) (gs : List Given) (filled : Bool) → IsDenotedAlike ps qs (finished (over ps g) p w gs filled) (finished (bare_over qs g) (bare_package_name p) w (map bare_given gs) filled)
-  finished_alike g p w gs filled = next_alike
-      (each_alike {f = itself} {g = itself} bare_given (argument_fits (p.name, p.version) w) (argument_fits (p.name, p.version) w) (argument_fits_alike (p.name, p.version) w) tt gs)
+  finished_alike : (g : State) (p : t.PackageName) (k : Key) (w : Stated) (gs : List Given) (filled : Bool) → IsDenotedAlike ps qs (finished (over ps g) p k w gs filled) (finished (bare_over qs g) (bare_package_name p) k w (map bare_given gs) filled)
+  finished_alike g p k w gs filled = next_alike
+      (each_alike {f = itself} {g = itself} bare_given (argument_fits k w) (argument_fits k w) (argument_fits_alike k w) tt gs)
       (next_alike (complete_alike filled p gs (names_of (imports_of w)))
-      (subst (λ (as_ : List (Name × Denoted)). IsDenotedAlike ps qs (pure (with_made (over ps g) made)) (pure (with_made (bare_over qs g) (record { key = (p.name, p.version); world = w; arguments = as_; span = nowhere }))))
+      (subst (λ (as_ : List (Name × Denoted)). IsDenotedAlike ps qs (pure (with_made (over ps g) made)) (pure (with_made (bare_over qs g) (record { key = k; world = w; arguments = as_; span = nowhere }))))
       (sym (pairs_bare gs)) (made_alike g made)))
     where
       made : Made
-      made = record { key = (p.name, p.version); world = w; arguments = map pair_of gs; span = p.span }
+      made = record { key = k; world = w; arguments = map pair_of gs; span = p.span }
 
-  new_package_alike : (g : State) (p : t.PackageName) → IsSameIn (worlds_of ps) (worlds_of qs) (p.name, p.version) → AreSame (new_package (over ps g) p) (new_package (bare_over qs g) (bare_package_name p))
-  new_package_alike g p h = next_alike (clear_alike (bytes_eq p.name g.own.name) _ _ p.span nowhere) (package_alike (worlds_of ps) (worlds_of qs) (p.name, p.version) p.span nowhere h)
+  -- ---- the package
+
+  -- the packages and the tracks that are named are the same
+  abbrev pub AreHeld : List Named → List Tracked → Type 0
+  AreHeld ks ts = AreSameIn (worlds_of ps) (worlds_of qs) ks × HoldsIn (ChoosesTheSame ps qs) ts
+
+  pub front_held : (ks ls : List Named) (ts us : List Tracked) → AreHeld (ks ++ ls) (ts ++ us) → AreHeld ks ts
+  front_held ks ls ts us h = (front_holds (IsSameIn (worlds_of ps) (worlds_of qs)) ks ls h.0, front_holds (ChoosesTheSame ps qs) ts us h.1)
+
+  pub back_held : (ks ls : List Named) (ts us : List Tracked) → AreHeld (ks ++ ls) (ts ++ us) → AreHeld ls us
+  back_held ks ls ts us h = (back_holds (IsSameIn (worlds_of ps) (worlds_of qs)) ks ls h.0, back_holds (ChoosesTheSame ps qs) ts us h.1)
+
+  under_key_alike : (k : Key) (s z : Span) → IsSameIn (worlds_of ps) (worlds_of qs) k → AreSame (under_key (worlds_of ps) s k) (under_key (worlds_of qs) z k)
+  under_key_alike k s z h = then_alike _ _ (package_alike (worlds_of ps) (worlds_of qs) k s z h) (λ w. both (k, w))
+
+  chosen_alike : (n : Name) (o r : Option Parts) (s z : Span) → o ≡ r → ((v : Parts) → o ≡ Some v → IsSameIn (worlds_of ps) (worlds_of qs) (version_key n v))
+      → AreSame (present (option_map (version_key n) o) (UnknownPackage n) s >>= under_key (worlds_of ps) s) (present (option_map (version_key n) r) (UnknownPackage n) z >>= under_key (worlds_of qs) z)
+  chosen_alike n None None s z e h = neither _ _
+  chosen_alike n None (Some v) s z e h = absurd (cc e)
+  chosen_alike n (Some v) None s z e h = absurd (cc e)
+  chosen_alike n (Some v) (Some w) s z e h =
+      subst (λ (u : Parts). AreSame (under_key (worlds_of ps) s (version_key n v)) (under_key (worlds_of qs) z (version_key n u))) (same_Some v w e) (under_key_alike (version_key n v) s z (h v refl))
+
+  new_package_alike : (g : State) (p : t.PackageName) (track : Option Name) → AreHeld (in_new p track) (track_in_new p track) → AreSame (new_package (over ps g) p track) (new_package (bare_over qs g) (bare_package_name p) track)
+  new_package_alike g p None h = next_alike (clear_alike (bytes_eq p.name g.own.name) _ _ p.span nowhere) (under_key_alike (p.name, p.version) p.span nowhere (h.0 (p.name, p.version) (inl refl)))
+  new_package_alike g p (Some track) h =
+      let same = h.1 (p.name, track) (inl refl) in
+      next_alike (clear_alike (bytes_eq p.name g.own.name) _ _ p.span nowhere) (chosen_alike p.name (greatest_on (names_of ps) p.name track) (greatest_on (names_of qs) p.name track) p.span nowhere same.greatest same.world)
 
   -- ---- steps over what was said
 
@@ -159,50 +189,48 @@ module _ (ps qs : List (Key × Content)) where
 
   -- ---- expressions
 
-  abbrev AreHeld : List Named → Type 0
-  AreHeld ks = AreSameIn (worlds_of ps) (worlds_of qs) ks
-
   mutual
-    pub denote_alike : (g : State) (e : t.Expr) → AreHeld (in_expr e) → IsDenotedAlike ps qs (denote (over ps g) e) (denote (bare_over qs g) (bare_expr e))
+    pub denote_alike : (g : State) (e : t.Expr) → AreHeld (in_expr e) (from_expr track_in_new e) → IsDenotedAlike ps qs (denote (over ps g) e) (denote (bare_over qs g) (bare_expr e))
     denote_alike g (t.expr s p as_) h = then_alike _ _ (primary_alike g p h) (λ r. accesses_alike (primary_expr_span p) (primary_expr_span (bare_primary p)) r.0 r.1 as_)
 
-    primary_alike : (g : State) (p : t.PrimaryExpr) → AreHeld (in_primary p) → IsDenotedAlike ps qs (primary (over ps g) p) (primary (bare_over qs g) (bare_primary p))
+    primary_alike : (g : State) (p : t.PrimaryExpr) → AreHeld (from_primary in_new p) (from_primary track_in_new p) → IsDenotedAlike ps qs (primary (over ps g) p) (primary (bare_over qs g) (bare_primary p))
     primary_alike g (t.PrimaryExpr.ident i) h = then_alike _ _ (denoted_alike (over ps g) (bare_over qs g) i refl) (λ d. both (g, d))
     primary_alike g (t.PrimaryExpr.nested n) h = nested_alike g n h
     primary_alike g (t.PrimaryExpr.new n) h = new_alike g n h
 
-    nested_alike : (g : State) (n : t.NestedExpr) → AreHeld (in_nested n) → IsDenotedAlike ps qs (nested (over ps g) n) (nested (bare_over qs g) (bare_nested n))
+    nested_alike : (g : State) (n : t.NestedExpr) → AreHeld (from_nested in_new n) (from_nested track_in_new n) → IsDenotedAlike ps qs (nested (over ps g) n) (nested (bare_over qs g) (bare_nested n))
     nested_alike g (t.nested_expr s e) h = denote_alike g e h
 
-    new_alike : (g : State) (n : t.NewExpr) → AreHeld (in_new n) → IsDenotedAlike ps qs (new_instance (over ps g) n) (new_instance (bare_over qs g) (bare_new n))
-    new_alike g (t.new_expr s p as_) h = then_alike _ _ (new_package_alike g p (h (p.name, p.version) (inl refl)))
-        (λ w. then_alike _ _ (arguments_alike g (names_of (imports_of w)) [] as_ (λ k m. h k (inr m)))
-        (λ r. then_alike _ _ (spreads_alike w r (spreads_bare as_)) (λ q. instance_alike w q (filled_bare as_))))
+    new_alike : (g : State) (n : t.NewExpr) → AreHeld (from_new in_new n) (from_new track_in_new n) → IsDenotedAlike ps qs (new_instance (over ps g) n) (new_instance (bare_over qs g) (bare_new n))
+    new_alike g (t.new_expr s p track as_) h =
+        then_alike _ _ (new_package_alike g p track (front_held (in_new p track) (from_arguments in_new as_) (track_in_new p track) (from_arguments track_in_new as_) h))
+        (λ x. then_alike _ _ (arguments_alike g (names_of (imports_of x.1)) [] as_ (back_held (in_new p track) (from_arguments in_new as_) (track_in_new p track) (from_arguments track_in_new as_) h))
+        (λ r. then_alike _ _ (spreads_alike x.1 r (spreads_bare as_)) (λ q. instance_alike x.0 x.1 q (filled_bare as_))))
       where
         spreads_alike : (w : Stated) (r : State × List Given) → spreads_of (bare_arguments as_) ≡ map bare_ident (spreads_of as_)
             → IsGivenAlike (each (spread_one (names_of (imports_of w))) (left_given r) (spreads_of as_)) (each (spread_one (names_of (imports_of w))) (right_given r) (spreads_of (bare_arguments as_)))
         spreads_alike w r e = subst (λ (is : List t.Ident). IsGivenAlike (each (spread_one (names_of (imports_of w))) (left_given r) (spreads_of as_)) (each (spread_one (names_of (imports_of w))) (right_given r) is)) (sym e)
             (each_alike {f = left_given} {g = right_given} bare_ident (spread_one (names_of (imports_of w))) (spread_one (names_of (imports_of w))) (spread_one_alike (names_of (imports_of w))) r (spreads_of as_))
 
-        instance_alike : (w : Stated) (q : State × List Given) → is_filled (bare_arguments as_) ≡ is_filled as_
-            → IsDenotedAlike ps qs (finished (over ps q.0) p w q.1 (is_filled as_)) (finished (bare_over qs q.0) (bare_package_name p) w (map bare_given q.1) (is_filled (bare_arguments as_)))
-        instance_alike w q e = subst (λ (b : Bool). IsDenotedAlike ps qs (finished (over ps q.0) p w q.1 (is_filled as_)) (finished (bare_over qs q.0) (bare_package_name p) w (map bare_given q.1) b)) (sym e) (finished_alike q.0 p w q.1 (is_filled as_))
+        instance_alike : (k : Key) (w : Stated) (q : State × List Given) → is_filled (bare_arguments as_) ≡ is_filled as_
+            → IsDenotedAlike ps qs (finished (over ps q.0) p k w q.1 (is_filled as_)) (finished (bare_over qs q.0) (bare_package_name p) k w (map bare_given q.1) (is_filled (bare_arguments as_)))
+        instance_alike k w q e = subst (λ (b : Bool). IsDenotedAlike ps qs (finished (over ps q.0) p k w q.1 (is_filled as_)) (finished (bare_over qs q.0) (bare_package_name p) k w (map bare_given q.1) b)) (sym e) (finished_alike q.0 p k w q.1 (is_filled as_))
 
-    arguments_alike : (g : State) (ns : List Name) (gs : List Given) (as_ : t.Arguments) → AreHeld (in_arguments as_) → IsGivenAlike (arguments (over ps g) ns gs as_) (arguments (bare_over qs g) ns (map bare_given gs) (bare_arguments as_))
+    arguments_alike : (g : State) (ns : List Name) (gs : List Given) (as_ : t.Arguments) → AreHeld (from_arguments in_new as_) (from_arguments track_in_new as_) → IsGivenAlike (arguments (over ps g) ns gs as_) (arguments (bare_over qs g) ns (map bare_given gs) (bare_arguments as_))
     arguments_alike g ns gs t.no_arguments h = both (g, gs)
     arguments_alike g ns gs (t.argument a as_) h = then_alike _ _
         (subst (λ (b : Bool). IsGivenAlike (one_argument (over ps g) ns gs a (is_last as_)) (one_argument (bare_over qs g) ns (map bare_given gs) (bare_argument a) b)) (sym (last_bare as_))
-        (one_argument_alike g ns gs a (is_last as_) (front_holds (IsSameIn (worlds_of ps) (worlds_of qs)) (in_argument a) (in_arguments as_) h)))
-        (λ r. arguments_alike r.0 ns r.1 as_ (back_holds (IsSameIn (worlds_of ps) (worlds_of qs)) (in_argument a) (in_arguments as_) h))
+        (one_argument_alike g ns gs a (is_last as_) (front_held (from_argument in_new a) (from_arguments in_new as_) (from_argument track_in_new a) (from_arguments track_in_new as_) h)))
+        (λ r. arguments_alike r.0 ns r.1 as_ (back_held (from_argument in_new a) (from_arguments in_new as_) (from_argument track_in_new a) (from_arguments track_in_new as_) h))
 
-    one_argument_alike : (g : State) (ns : List Name) (gs : List Given) (a : t.InstantiationArgument) (last : Bool) → AreHeld (in_argument a) → IsGivenAlike (one_argument (over ps g) ns gs a last) (one_argument (bare_over qs g) ns (map bare_given gs) (bare_argument a) last)
+    one_argument_alike : (g : State) (ns : List Name) (gs : List Given) (a : t.InstantiationArgument) (last : Bool) → AreHeld (from_argument in_new a) (from_argument track_in_new a) → IsGivenAlike (one_argument (over ps g) ns gs a last) (one_argument (bare_over qs g) ns (map bare_given gs) (bare_argument a) last)
     one_argument_alike g ns gs (t.InstantiationArgument.inferred i) last h = then_alike _ _ (denoted_alike (over ps g) (bare_over qs g) i refl)
         (λ d. then_alike _ _ (add_given_alike gs (record { name = inferred_name ns i d; denoted = d; span = i.span })) (λ hs. both (g, hs)))
     one_argument_alike g ns gs (t.InstantiationArgument.spread i) last h = both (g, gs)
     one_argument_alike g ns gs (t.InstantiationArgument.fill s) last h = next_alike (clear_alike (not last) _ _ s nowhere) (both (g, gs))
     one_argument_alike g ns gs (t.InstantiationArgument.named a) last h = named_argument_alike g ns gs a h
 
-    named_argument_alike : (g : State) (ns : List Name) (gs : List Given) (a : t.NamedInstantiationArgument) → AreHeld (in_named_argument a) → IsGivenAlike (named_argument (over ps g) ns gs a) (named_argument (bare_over qs g) ns (map bare_given gs) (bare_named_argument a))
+    named_argument_alike : (g : State) (ns : List Name) (gs : List Given) (a : t.NamedInstantiationArgument) → AreHeld (from_named_argument in_new a) (from_named_argument track_in_new a) → IsGivenAlike (named_argument (over ps g) ns gs a) (named_argument (bare_over qs g) ns (map bare_given gs) (bare_named_argument a))
     named_argument_alike g ns gs (t.named_argument n e) h = then_alike _ _ (denote_alike g e h) (λ r. then_alike _ _ (added r.1) (λ hs. both (r.0, hs)))
       where
         given : Denoted → Name → Span → Given

@@ -10,16 +10,16 @@ use Rattle.wac_types_names.specs.Keys.{Key}
 use Rattle.wac_parser_tree.specs.Trees as t
 use Rattle.wac_parser_tree.specs.Trees.{Span}
 use Rattle.wac_parser_tree.specs.Bare.{nowhere, bare_ident, bare_package_path, bare_extern_name, bare_func, bare_inline_interface, bare_import_type, bare_import, bare_type_decl, bare_type_statement, bare_expr, bare_options, bare_statement, bare}
-use Rattle.wac_parser_tree.specs.Named.{Named, in_import_type, in_statement}
+use Rattle.wac_parser_tree.specs.Named.{Named, in_import_type, in_statement, tracks_in_statement, tracks_named}
 use Rattle.wac_parser_refusals.specs.declared.error.InstanceOperation.{InstanceOperation}
-use Rattle.wac_parser_refusals.specs.Causes.{Answer, pure, ExportRequiresAs}
-use Rattle.wac_parser_refusals.proofs.Alike.{IsAlike, both, neither, itself, AreSame, then_alike, next_alike, clear_alike, present_same, each_same, each_named}
+use Rattle.wac_parser_refusals.specs.Causes.{Answer, pure, each, ExportRequiresAs}
+use Rattle.wac_parser_refusals.proofs.Alike.{IsAlike, both, neither, itself, AreSame, then_alike, next_alike, clear_alike, present_same, each_same}
 use Rattle.wac_parser_declare.specs.Packages.{Content}
 use Rattle.wac_parser_declare.specs.Scope.{Scope, Context, named, path_item}
 use Rattle.wac_parser_declare.specs.Declarations.{free}
 use Rattle.wac_parser_declare.specs.Interfaces.{inline_interface}
 use Rattle.wac_parser_declare.specs.Worlds.{type_statement}
-use Rattle.wac_parser_declare.proofs.AlikeScopes.{has_read, named_alike, IsSameIn, AreSameIn, bare_context, path_alike}
+use Rattle.wac_parser_declare.proofs.AlikeScopes.{has_read, named_alike, AreSameIn, bare_context, path_alike}
 use Rattle.wac_parser_declare.proofs.AlikeTypes.{free_alike}
 use Rattle.wac_parser_declare.proofs.AlikeBodies.{inline_alike}
 use Rattle.wac_parser_declare.proofs.AlikeWorlds.{type_statement_alike}
@@ -27,7 +27,7 @@ use Rattle.wac_parser_declare.proofs.Kept.{with_values-more}
 use Rattle.wac_parser_resolve.specs.Ascribing.{imported, defined, Denoted, Import, Bound, State, start, root_scope, worlds_of, context, bound, speak_of, is_own_definition}
 use Rattle.wac_parser_resolve.specs.Saying.{is_exportable, is_extern_name, asked, identified, written_name, told_name, import_name, import_called, not_imported, with_import, import_statement, not_exported, with_definition, declaration, type_id, declared_id, no_definition, new_export, exported, export_name, export_one, export_left, export_as, expr_span, statement, statements}
 use Rattle.wac_parser_resolve.proofs.AlikeStates.{bare_bound, bare_asked, bare_exports, over, bare_over, scope_bare, context_bare, IsSaidAlike, bound_alike, spoken_over, spoken_bare}
-use Rattle.wac_parser_resolve.proofs.AlikeExpressions.{needs_instance_alike, export_named_alike, denote_alike}
+use Rattle.wac_parser_resolve.proofs.AlikeExpressions.{AreHeld, back_held, front_held, needs_instance_alike, export_named_alike, denote_alike}
 
 -- ---- names
 
@@ -86,8 +86,8 @@ left_bare es (n ∷ ns) = go (is_some (value_at (bare_exports es) n)) (is_some (
     go b c e f = ap (λ d. cond (not d) (n ∷ filter (λ n. not (is_some (value_at (bare_exports es) n))) ns) (filter (λ n. not (is_some (value_at (bare_exports es) n))) ns)) e ∙ ap (λ ms. cond (not c) (n ∷ ms) ms) f
 
 module _ (ps qs : List (Key × Content)) where
-  abbrev AreHeld : List Named → Type 0
-  AreHeld ks = AreSameIn (worlds_of ps) (worlds_of qs) ks
+  abbrev ArePackages : List Named → Type 0
+  ArePackages ks = AreSameIn (worlds_of ps) (worlds_of qs) ks
 
   abbrev left_context : State → Context
   left_context g = context (over ps g)
@@ -101,7 +101,7 @@ module _ (ps qs : List (Key × Content)) where
 
   -- ---- import statements
 
-  asked_alike : (g : State) (x : t.ImportType) → AreHeld (in_import_type x) → AreSame (asked (over ps g) x) (asked (bare_over qs g) (bare_import_type x))
+  asked_alike : (g : State) (x : t.ImportType) → ArePackages (in_import_type x) → AreSame (asked (over ps g) x) (asked (bare_over qs g) (bare_import_type x))
   asked_alike g (t.ImportType.package_path p) h = stated_alike g _ (λ c. path_item c (bare_package_path p)) (path_alike (left_context g) (worlds_of qs) p h)
   asked_alike g (t.ImportType.func f) h = subst (λ (ms : Scope). AreSame (free (root_scope g) f) (free ms (bare_func f))) (sym (scope_bare g.root)) (free_alike (root_scope g) f)
   asked_alike g (t.ImportType.interface d) h = stated_alike g _ (λ c. inline_interface c (bare_inline_interface d)) (inline_alike (left_context g) (worlds_of qs) d h)
@@ -123,7 +123,7 @@ module _ (ps qs : List (Key × Content)) where
       go None = told_name_alike g x.id x.ty
       go (Some n) = subst (λ (i : t.Ident). IsAlike itself bare_ident (pure (written_name n)) (pure i)) (sym (written_bare n)) (both (written_name n))
 
-  import_alike : (g : State) (x : t.ImportStatement) → AreHeld (in_import_type x.ty) → IsSaidAlike ps qs (import_statement (over ps g) x) (import_statement (bare_over qs g) (bare_import x))
+  import_alike : (g : State) (x : t.ImportStatement) → ArePackages (in_import_type x.ty) → IsSaidAlike ps qs (import_statement (over ps g) x) (import_statement (bare_over qs g) (bare_import x))
   import_alike g x h = then_alike _ _ (import_name_alike g x) (λ n. then_alike _ _ (asked_alike g x.ty h)
       (λ y. next_alike (subst (λ (o : Option Import). AreSame (not_imported (import_called g.imports n.string) n (is_none x.name)) (not_imported o (bare_ident n) (is_none (bare_import x).name))) (sym (called_bare g.imports n.string)) (not_imported_alike (import_called g.imports n.string) n _ _))
       (next_alike (clear_alike (not (is_extern_name n.string)) _ _ _ _) (imported_as n (promote y)))))
@@ -180,13 +180,19 @@ module _ (ps qs : List (Key × Content)) where
 
   -- ---- all
 
-  statement_alike : (g : State) (x : t.Statement) → AreHeld (in_statement x) → IsSaidAlike ps qs (statement (over ps g) x) (statement (bare_over qs g) (bare_statement x))
-  statement_alike g (t.Statement.import x) h = import_alike g x h
-  statement_alike g (t.Statement.ty x) h = then_alike _ _ (stated_alike g _ (λ c. type_statement c (bare_type_statement x)) (type_statement_alike (left_context g) (worlds_of qs) x h))
+  statement_alike : (g : State) (x : t.Statement) → AreHeld ps qs (in_statement x) (tracks_in_statement x) → IsSaidAlike ps qs (statement (over ps g) x) (statement (bare_over qs g) (bare_statement x))
+  statement_alike g (t.Statement.import x) h = import_alike g x h.0
+  statement_alike g (t.Statement.ty x) h = then_alike _ _ (stated_alike g _ (λ c. type_statement c (bare_type_statement x)) (type_statement_alike (left_context g) (worlds_of qs) x h.0))
       (λ y. subst (λ (i : t.Ident). IsSaidAlike ps qs (declaration (over ps g) (declared_id x) y) (declaration (bare_over qs g) i y)) (sym (declared_bare x)) (declaration_alike g (declared_id x) y))
   statement_alike g (t.Statement.let_ x) h = then_alike _ _ (denote_alike ps qs g x.expr h) (λ r. bound_alike ps qs r.0 x.id r.1)
   statement_alike g (t.Statement.export x) h = then_alike _ _ (denote_alike ps qs g x.expr h)
       (λ r. subst (λ (z : Span). IsSaidAlike ps qs (export_as (over ps r.0) (expr_span x.expr) r.1 x.options) (export_as (bare_over qs r.0) z r.1 (bare_options x.options))) (sym (expr_span_bare x.expr)) (export_as_alike r.0 (expr_span x.expr) r.1 x.options))
 
-  pub statements_alike : (d : t.Document) → AreHeld (flat_map in_statement d.statements) → IsSaidAlike ps qs (statements d ps) (statements (bare d) qs)
-  statements_alike d h = each_named (IsSameIn (worlds_of ps) (worlds_of qs)) {f = over ps} {g = bare_over qs} in_statement bare_statement statement statement statement_alike (start d ps) d.statements h
+  all_alike : (g : State) (xs : List t.Statement) → AreHeld ps qs (flat_map in_statement xs) (flat_map tracks_in_statement xs) → IsSaidAlike ps qs (each statement (over ps g) xs) (each statement (bare_over qs g) (map bare_statement xs))
+  all_alike g [] h = both g
+  all_alike g (x ∷ xs) h =
+      then_alike _ _ (statement_alike g x (front_held ps qs (in_statement x) (flat_map in_statement xs) (tracks_in_statement x) (flat_map tracks_in_statement xs) h))
+      (λ q. all_alike q xs (back_held ps qs (in_statement x) (flat_map in_statement xs) (tracks_in_statement x) (flat_map tracks_in_statement xs) h))
+
+  pub statements_alike : (d : t.Document) → AreHeld ps qs (flat_map in_statement d.statements) (tracks_named d) → IsSaidAlike ps qs (statements d ps) (statements (bare d) qs)
+  statements_alike d h = all_alike (start d ps) d.statements h

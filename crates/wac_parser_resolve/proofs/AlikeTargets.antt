@@ -11,13 +11,14 @@ use Rattle.wac_composition.specs.Tests.{fits}
 use Rattle.wac_parser_tree.specs.Trees as t
 use Rattle.wac_parser_tree.specs.Trees.{Span}
 use Rattle.wac_parser_tree.specs.Bare.{nowhere, bare_package_path, bare}
-use Rattle.wac_parser_tree.specs.Named.{Named, in_target, in_statement, packages_named}
+use Rattle.wac_parser_tree.specs.Named.{in_target, in_statement}
 use Rattle.wac_parser_refusals.specs.Causes.{Answer, pure, each, TypeCannotBeWritten}
 use Rattle.wac_parser_refusals.proofs.Alike.{IsAlike, both, neither, itself, AreSame, first, then_alike, next_alike, needs_alike, each_alike, each_same, front_holds, back_holds}
 use Rattle.wac_parser_declare.specs.Packages.{Content}
 use Rattle.wac_parser_declare.specs.Scope.{path_item}
 use Rattle.wac_parser_declare.proofs.AlikeScopes.{IsSameIn, AreSameIn, path_alike}
 use Rattle.wac_parser_resolve.specs.Ascribing.{Import, Made, Bound, State, worlds_of, context}
+use Rattle.wac_parser_resolve.specs.Laws.{NamesTheSame}
 use Rattle.wac_parser_resolve.specs.Meeting.{given_by, Wanted, wanted_by_statement, wanted_by_instance, wanted, refuse_at, uses_are_named, target_met, target, resolved, target_by, export_met, import_met}
 use Rattle.wac_parser_resolve.proofs.AlikeStates.{bare_bound, bare_asked, bare_made, bare_exports, over, bare_over}
 use Rattle.wac_parser_resolve.proofs.AlikeStatements.{stated_alike, statements_alike}
@@ -77,9 +78,6 @@ world_by_alike IsInterface p x = neither _ _
 world_by_alike IsModuleType p x = neither _ _
 
 module _ (ps qs : List (Key × Content)) where
-  abbrev AreHeld : List Named → Type 0
-  AreHeld ks = AreSameIn (worlds_of ps) (worlds_of qs) ks
-
   met_alike : (g : State) (p : t.PackagePath) (w : Stated) → AreSame (target_met (over ps g) p w) (target_met (bare_over qs g) (bare_package_path p) w)
   met_alike g p w = next_alike (named_alike p (uses_are_named w))
       (next_alike (subst (λ (ws : List Wanted). AreSame (each (λ (u : ⊤) a. import_met p a (given_by w a.name)) tt (wanted g)) (each (λ (u : ⊤) a. import_met (bare_package_path p) a (given_by w a.name)) tt ws)) (sym (wanted_bare qs g))
@@ -90,7 +88,7 @@ module _ (ps qs : List (Key × Content)) where
       exported_alike e = subst (λ (o : Option Bound). AreSame (export_met (over ps g) p e.0 e.1 (value_at g.exports e.0)) (export_met (bare_over qs g) (bare_package_path p) e.0 e.1 o)) (sym (value_with bare_bound g.exports e.0))
           (export_by_alike (over ps g) (bare_over qs g) p e.0 e.1 (value_at g.exports e.0))
 
-  target_alike : (g : State) (o : Option t.PackagePath) → AreHeld (in_target o) → AreSame (target (over ps g) o) (target (bare_over qs g) (option_map bare_package_path o))
+  target_alike : (g : State) (o : Option t.PackagePath) → AreSameIn (worlds_of ps) (worlds_of qs) (in_target o) → AreSame (target (over ps g) o) (target (bare_over qs g) (option_map bare_package_path o))
   target_alike g None h = both None
   target_alike g (Some p) h = then_alike _ _
       (then_alike _ _ (stated_alike ps qs g _ (λ c. path_item c (bare_package_path p)) (path_alike (context (over ps g)) (worlds_of qs) p h)) (λ x. world_by_alike (kind_of x) p x))
@@ -99,6 +97,6 @@ module _ (ps qs : List (Key × Content)) where
   abbrev pub AreResolvedAlike : Answer (State × Option Stated) → Answer (State × Option Stated) → Type 0
   AreResolvedAlike a b = IsAlike {A = State × Option Stated} (first (over ps)) (first (bare_over qs)) a b
 
-  pub resolved_alike : (d : t.Document) → AreHeld (packages_named d) → AreResolvedAlike (resolved d ps) (resolved (bare d) qs)
-  resolved_alike d h = then_alike _ _ (statements_alike ps qs d (front_holds (IsSameIn (worlds_of ps) (worlds_of qs)) (flat_map in_statement d.statements) (in_target d.directive.targets) h))
-      (λ g. then_alike _ _ (target_alike g d.directive.targets (back_holds (IsSameIn (worlds_of ps) (worlds_of qs)) (flat_map in_statement d.statements) (in_target d.directive.targets) h)) (λ w. both (g, w)))
+  pub resolved_alike : (d : t.Document) → NamesTheSame d ps qs → AreResolvedAlike (resolved d ps) (resolved (bare d) qs)
+  resolved_alike d h = then_alike _ _ (statements_alike ps qs d (front_holds (IsSameIn (worlds_of ps) (worlds_of qs)) (flat_map in_statement d.statements) (in_target d.directive.targets) h.packages, h.tracks))
+      (λ g. then_alike _ _ (target_alike g d.directive.targets (back_holds (IsSameIn (worlds_of ps) (worlds_of qs)) (flat_map in_statement d.statements) (in_target d.directive.targets) h.packages)) (λ w. both (g, w)))

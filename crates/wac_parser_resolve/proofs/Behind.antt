@@ -5,6 +5,7 @@ use Rattle.std.specs.List.{list_any}
 use Rattle.std.proofs.lemmas.List.{drop_all, drop_more}
 use Rattle.wac_types_base.specs.Entries.{Name, names_of}
 use Rattle.wac_types_base.specs.Stated.{Stated, imports_of}
+use Rattle.wac_types_names.specs.Keys.{Key}
 use Rattle.wac_graph_core.specs.Edges.{alias_edge}
 use Rattle.wac_graph_core.specs.Graph.{Graph, IsGraph}
 use Rattle.wac_parser_tree.specs.Trees as t
@@ -45,10 +46,10 @@ module _ {A B C D : Type 0} (f : A → Answer C) (h : A → B → Type 0) (k : C
 alike_made : (s : State) (m : Made) → Alike s (stated.with_made s m).0
 alike_made s m = record { own = refl; packages = refl; root = refl; imports = refl; definitions = refl; exports = refl }
 
-alike_finished : (s : State) (p : t.PackageName) (w : Stated) (gs : List Given) (filled : Bool) (r : State × Denoted) → finished s p w gs filled ≡ Ok r → Alike s r.0
-alike_finished s p w gs filled r e =
-    let m : Made = record { key = (p.name, p.version); world = w; arguments = map (λ (a : Given). (a.name, a.denoted)) gs; span = p.span } in
-    let a = second_ok (each (argument_fits (p.name, p.version) w) tt gs) (complete filled p gs (names_of (imports_of w)) >> pure (stated.with_made s m)) r e in
+alike_finished : (s : State) (p : t.PackageName) (k : Key) (w : Stated) (gs : List Given) (filled : Bool) (r : State × Denoted) → finished s p k w gs filled ≡ Ok r → Alike s r.0
+alike_finished s p k w gs filled r e =
+    let m : Made = record { key = k; world = w; arguments = map (λ (a : Given). (a.name, a.denoted)) gs; span = p.span } in
+    let a = second_ok (each (argument_fits k w) tt gs) (complete filled p gs (names_of (imports_of w)) >> pure (stated.with_made s m)) r e in
     let b = second_ok (complete filled p gs (names_of (imports_of w))) (pure (stated.with_made s m)) r a in
     let is : stated.with_made s m ≡ r = cc b in
     subst (λ (q : State × Denoted). Alike s q.0) is (alike_made s m)
@@ -77,13 +78,13 @@ mutual
   alike_nested s (t.nested_expr sp x) r e = alike_denote s x r e
 
   alike_new : (s : State) (x : t.NewExpr) (r : State × Denoted) → new_instance s x ≡ Ok r → Alike s r.0
-  alike_new s (t.new_expr sp p xs) r e =
-      let a = first_ok (new_package s p) (λ w. arguments s (names_of (imports_of w)) [] xs >>= λ q. each (spread_one (names_of (imports_of w))) q (spreads_of xs) >>= λ k. finished k.0 p w k.1 (is_filled xs)) r e in
-      let ns = names_of (imports_of a.0) in
-      let b = first_ok (arguments s ns [] xs) (λ q. each (spread_one ns) q (spreads_of xs) >>= λ k. finished k.0 p a.0 k.1 (is_filled xs)) r a.2 in
-      let c = first_ok (each (spread_one ns) b.0 (spreads_of xs)) (λ k. finished k.0 p a.0 k.1 (is_filled xs)) r b.2 in
+  alike_new s (t.new_expr sp p track xs) r e =
+      let a = first_ok (new_package s p track) (λ x. arguments s (names_of (imports_of x.1)) [] xs >>= λ q. each (spread_one (names_of (imports_of x.1))) q (spreads_of xs) >>= λ k. finished k.0 p x.0 x.1 k.1 (is_filled xs)) r e in
+      let ns = names_of (imports_of a.0.1) in
+      let b = first_ok (arguments s ns [] xs) (λ q. each (spread_one ns) q (spreads_of xs) >>= λ k. finished k.0 p a.0.0 a.0.1 k.1 (is_filled xs)) r a.2 in
+      let c = first_ok (each (spread_one ns) b.0 (spreads_of xs)) (λ k. finished k.0 p a.0.0 a.0.1 k.1 (is_filled xs)) r b.2 in
       alike_trans s b.0.0 r.0 (alike_arguments s ns [] xs b.0 b.1)
-      (alike_trans b.0.0 c.0.0 r.0 (alike_spreads ns (spreads_of xs) b.0 c.0 c.1) (alike_finished c.0.0 p a.0 c.0.1 (is_filled xs) r c.2))
+      (alike_trans b.0.0 c.0.0 r.0 (alike_spreads ns (spreads_of xs) b.0 c.0 c.1) (alike_finished c.0.0 p a.0.0 a.0.1 c.0.1 (is_filled xs) r c.2))
 
   alike_arguments : (s : State) (ns : List Name) (gs : List Given) (xs : t.Arguments) (r : Both) → arguments s ns gs xs ≡ Ok r → Alike s r.0
   alike_arguments s ns gs t.no_arguments r e = same_first s gs gs r e

@@ -14,7 +14,7 @@ use Rattle.wac_graph_core.specs.Graph.{Graph, IsGraph}
 use Rattle.wac_parser_tree.specs.Trees as t
 use Rattle.wac_parser_tree.specs.Trees.{Span}
 use Rattle.wac_parser_refusals.specs.declared.refusal.Refusal.{Refusal}
-use Rattle.wac_parser_refusals.specs.Causes.{Answer, Fault, ◌>>◌, present, pure, unless_clear}
+use Rattle.wac_parser_refusals.specs.Causes.{Answer, Fault, UnknownPackage, ◌>>=◌, ◌>>◌, present, pure, unless_clear}
 use Rattle.wac_parser_refusals.specs.Outcomes.{IsHeld, IsOutcome, IsRefusal, Refuses}
 use Rattle.wac_parser_refusals.proofs.Outcomes.{memory_refusal}
 use Rattle.wac_parser_declare.specs.Packages.{Content, SamePackages, world_if}
@@ -24,14 +24,15 @@ use Rattle.wac_parser_resolve.specs.declared.packages.GraphTypes.{GraphTypes}
 use Rattle.wac_parser_resolve.specs.declared.root.Root.{Root}
 use Rattle.wac_parser_resolve.specs.Ascribing.{Made, State, worlds_of}
 use Rattle.wac_parser_resolve.specs.Denoting as stated
-use Rattle.wac_parser_resolve.specs.Denoting.{none_missing, with_made}
+use Rattle.wac_parser_resolve.specs.Denoting.{key_named, none_missing, under_key, with_made}
 use Rattle.wac_parser_resolve.specs.Holding.{HasItem, InTurn, IsMade, Says}
 use Rattle.wac_parser_resolve.specs.InArguments.{imported_by}
-use Rattle.wac_parser_resolve.specs.InInstances.{Denoting, IsOn, SaysMade, instances_of, makes}
+use Rattle.wac_parser_resolve.specs.InInstances.{Denoting, HasPackage, IsOn, SaysMade, instances_of, known_under, makes, package_named}
 use Rattle.wac_parser_resolve.specs.Keeping.{Keeps}
-use Rattle.wac_parser_resolve.specs.Knowing.{all_known, handed_under, known_in, content_in}
+use Rattle.wac_parser_resolve.specs.Knowing.{IsPackage, all_known, handed_keys, handed_under, known_in, content_in}
 use Rattle.wac_parser_resolve.specs.Later.{IsWithin, Later}
-use Rattle.wac_parser_resolve.proofs.Alike.{Alike}
+use Rattle.wac_parser_resolve.proofs.Alike.{Alike, outcome_with}
+use Rattle.wac_parser_resolve.proofs.Knowing.{keys_back}
 use Rattle.wac_parser_resolve.proofs.Nodes.{holds_stays}
 use Rattle.wac_parser_resolve.proofs.Numbers.{slice_last}
 use Rattle.wac_parser_resolve.proofs.SoundGraph.{keeps_inner}
@@ -51,6 +52,9 @@ known_within g h within same k =
   where
     handed_by : h.packages ≡ g.packages → handed_under h k ≡ handed_under g k
     handed_by e = ap (λ p. handed_under (record { graph = g.graph; packages = p }) k) e
+
+keys_by : (g h : GraphTypes) → h.packages ≡ g.packages → handed_keys h ≡ handed_keys g
+keys_by g h e = ap (λ p. handed_keys (record { graph = g.graph; packages = p })) e
 
 -- the world of a package, among those of all
 world_under : (ps : List (Key × Content)) (k : Key) → package_under (worlds_of ps) k ≡ world_if (package_under ps k)
@@ -73,6 +77,7 @@ module _ (root : Root) (b c : Board) where
     says = subst (λ xs. Says c.types.graph xs.noted.items root.nodes.now s) (sym noted)
         (says_stay b.types.graph c.types.graph (keeps_inner b.types.graph c.types.graph keeps).later (keeps_none b.types.graph c.types.graph is keeps) b.instances.noted.items root.nodes.now s on.says);
     known = λ k. same.same k ∙ on.known k;
+    handed = keys_back b.types.graph c.types.graph (handed_keys b.types) (handed_keys c.types) same.rest ∙ on.handed;
     own = on.own;
   }
 
@@ -81,6 +86,7 @@ module _ (root : Root) (b c : Board) where
   on_within within same s q on alike says = record {
     says = says;
     known = λ k. known_within b.types c.types within same k ∙ on.known k ∙ ap (λ ps. package_under ps k) (sym alike.packages);
+    handed = keys_by b.types c.types same ∙ on.handed ∙ ap (λ (ps : List (Key × Content)). names_of ps) (sym alike.packages);
     own = ap (λ (p : t.PackageName). p.name) alike.own ∙ on.own;
   }
 
@@ -125,17 +131,28 @@ imports_later g h l w stands =
 
 -- ---- the package of a `new`
 
-module _ {K : Stated → PackageId → Type 0} (H : Stated → PackageId → Type 0) (f : Fault) (at : Span) (step : (w : Stated) (id : PackageId) → H w id → K w id) where
-  package_by : (o : Option Stated) (r : Result PackageId Refusal) → IsOutcome H (present o f at) r → IsOutcome K (present o f at) r
-  package_by (Some w) (Ok id) h = step w id h
-  package_by (Some w) (Err e) h = h
-  package_by None (Ok id) h = absurd h
-  package_by None (Err e) h = h
+-- it is known under its key
+module _ (h : Graph) (k : Key) (f : Fault) (at : Span) where
+  pub keyed_outcome : (o : Option Stated) (r : Result PackageId Refusal) → IsOutcome (IsPackage h k) (present o f at) r → IsOutcome (HasPackage h) (present o f at >>= λ w. pure (k, w)) r
+  keyed_outcome (Some w) (Ok id) x = x
+  keyed_outcome (Some w) (Err e) x = x
+  keyed_outcome None (Ok id) x = x
+  keyed_outcome None (Err e) x = x
 
-  -- it is not the document's own, and known under its key
-  pub package_outcome : (b : Bool) (o p : Option Stated) (r : Result PackageId Refusal) → b ≡ false → o ≡ p → IsOutcome H (present o f at) r → IsOutcome K (unless_clear b f at >> present p f at) r
-  package_outcome true o p r e s h = absurd (cc e)
-  package_outcome false o p r e s h = subst (λ (x : Option Stated). IsOutcome K (present x f at) r) s (package_by o r h)
+-- what is known is what was said
+pub package_said : (ps : List (Key × Content)) (g : GraphTypes) → ((k : Key) → known_in g k ≡ package_under ps k) → handed_keys g ≡ names_of ps → (p : t.PackageName) (track : Option Name)
+    → package_named g p track ≡ (key_named (names_of ps) p track >>= under_key (worlds_of ps) p.span)
+package_said ps g known keys p track = ap (λ (ks : List Key). key_named ks p track >>= known_under g p.span) keys ∙ by (key_named (names_of ps) p track)
+  where
+    by : (q : Answer Key) → (q >>= known_under g p.span) ≡ (q >>= under_key (worlds_of ps) p.span)
+    by (Ok k) = ap (λ (o : Option Stated). present o (UnknownPackage k.0) p.span >>= λ w. pure (k, w)) (world_known ps k (known_in g k) (known k))
+    by (Err c) = refl
+
+-- it is not the document's own
+module _ {A B : Type 0} (H K : A → B → Type 0) (f : Fault) (at : Span) (step : (a : A) (b : B) → H a b → K a b) where
+  pub package_outcome : (b : Bool) (q p : Answer A) (r : Result B Refusal) → b ≡ false → q ≡ p → IsOutcome H q r → IsOutcome K (unless_clear b f at >> p) r
+  package_outcome true q p r e s h = absurd (cc e)
+  package_outcome false q p r e s h = subst (λ (x : Answer A). IsOutcome K x r) s (outcome_with H K q r (λ a b e. step a b) h)
 
 pub own_refused : {A : Type 0} (f : Fault) (at : Span) (q : Answer A) (b : Bool) (e : Refusal) → b ≡ true → Refuses e f at → IsRefusal (unless_clear b f at >> q) e
 own_refused f at q true e is r = r

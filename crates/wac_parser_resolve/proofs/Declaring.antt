@@ -249,6 +249,7 @@ module _ (own : t.PackageName) (b : Held) (s : State) (said : IsSaid own b s) (i
           board = record {
             says = record { rising = says.rising; made = says.made; all = says.all; aliases = says.aliases; root = says.root };
             known = λ j. known_within b.board.types h within j ∙ said.board.known j;
+            handed = said.board.handed;
             own = said.board.own;
           };
           own = said.own;

@@ -96,6 +96,7 @@ module _ (own : t.PackageName) (b : Held) (h : Graph) (spans : Spans) (s : State
       known = λ k.
           ap (λ (c : Collection). option_or (content_in c h.places k) (handed_under b.board.types k)) within.types
           ∙ ap (λ ps. option_or (content_in g.types ps k) (handed_under b.board.types k)) within.places ∙ said.board.known k;
+      handed = said.board.handed;
       own = said.board.own;
     };
     own = said.own;

@@ -9,12 +9,13 @@ use Rattle.wac_parser_tree.specs.declared.expr.PrimaryExpr.{New, Nested, Ident a
 use Rattle.wac_parser_tree.specs.declared.expr.InstantiationArgument.{Inferred, Spread, Named, Fill, the_lemmas}
 use Rattle.wac_parser_tree.specs.Trees as t
 use Rattle.wac_parser_tree.specs.Trees.{Span}
+use Rattle.wac_parser_resolve.specs.InInstances.{track_of}
 use Rattle.wac_parser_tree.specs.Views.{view_expr, view_ident, view_instantiation_argument, view_instantiation_argument_name, view_named_instantiation_argument, view_nested_expr, view_new_expr, view_package_name, view_postfix_expr, view_primary_expr}
 
 pub of_expr : (e : Expr) → view_expr e ≡ t.expr e.span (view_primary_expr e.primary) (map view_postfix_expr e.postfix.items)
 of_expr e = search (rules, the_lemmas)
 
-pub of_new : (n : NewExpr) → view_new_expr n ≡ t.new_expr n.span (view_package_name n.«package») (t.arguments (map view_instantiation_argument n.arguments.items))
+pub of_new : (n : NewExpr) → view_new_expr n ≡ t.new_expr n.span (view_package_name n.«package») (track_of n) (t.arguments (map view_instantiation_argument n.arguments.items))
 of_new n = search (rules, the_lemmas)
 
 pub of_nested : (n : NestedExpr) → view_nested_expr n ≡ t.nested_expr (out-NestedExpr n).span (view_expr (out-NestedExpr n).inner.value)

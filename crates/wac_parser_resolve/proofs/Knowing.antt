@@ -1,6 +1,5 @@
 -- What is known of packages, while a collection grows and packages are registered.
 use Rattle.std.proofs.Common.{◌≡◌, ℕ, zero, suc, Bool, true, false, cond, List, [], ◌∷◌, ◌++◌, Option, Some, None, IsSome, Result, Ok, Err, IfOk, OnErr, OnOk, slice_get, slice_set, refl, sym, ap, subst, ◌∙◌}
-use Rattle.std.specs.Coded.{coded_option, coded×}
 use Rattle.std.specs.FinMap as map
 use Rattle.std.specs.Option.{option_or}
 use Rattle.wac_types_base.specs.declared.item.ItemKind.{ItemKind}
@@ -12,13 +11,11 @@ use Rattle.wac_types_base.proofs.GraphLemmas.{value_of}
 use Rattle.wac_types_base.specs.Stated.{Stated, stated_of}
 use Rattle.wac_types_base.proofs.Stating.{stated_kept}
 use Rattle.wac_types_names.specs.Packaged.{Packaged}
-use Rattle.wac_types_names.specs.contracts.package.Package as package_row
 use Rattle.wac_types_names.specs.Keys.{Key, package_key, same_key}
 use Rattle.wac_types_names.proofs.KeyTests.{key_same, key_refl}
 use Rattle.wac_graph_core.specs.declared.ids.PackageId.{PackageId}
 use Rattle.wac_graph_core.specs.declared.package.Place.{Place}
 use Rattle.wac_graph_core.specs.declared.edge.Edge.{Edge}
-use Rattle.wac_graph_core.specs.contracts.graph.CompositionGraph as graph_row
 use Rattle.wac_graph_core.specs.Nodes.{NodeData}
 use Rattle.wac_graph_core.specs.NodeMaps.{NodeMap}
 use Rattle.wac_graph_core.specs.Graph.{Graph, IsGraph, instantiated, node_at, package_if, package_in, package_made, package_of}
@@ -31,7 +28,7 @@ use Rattle.wac_parser_refusals.specs.Causes.{Fault, present}
 use Rattle.wac_parser_refusals.specs.Outcomes.{IsHeld, IsRefusal, Refuses}
 use Rattle.wac_parser_declare.specs.Packages.{Content, SamePackages}
 use Rattle.wac_parser_resolve.specs.declared.packages.GraphTypes.{GraphTypes}
-use Rattle.wac_parser_resolve.specs.Knowing.{Gets, IsPackage, SameContents, all_known, content_of, handed_under, held_under, known_of, wiring_of, content_in, node_rest}
+use Rattle.wac_parser_resolve.specs.Knowing.{Gets, IsPackage, SameContents, all_known, coded_rest, content_of, handed_keys, handed_under, held_under, known_of, wiring_of, content_in, node_rest}
 use Rattle.wac_parser_resolve.specs.Keeping.{Keeps}
 use Rattle.wac_parser_resolve.proofs.Keeping.{Keeps-enlarged, keeping, put_there}
 
@@ -197,7 +194,7 @@ known_registered g h p id r =
         none_behind (Some w) = refl
     put_other qs (put_free f) k none = world_set_other g.types k g.places id.place f.place (held_place id.generation p) f.there f.free.empty none
 
--- ---- what is node_rest types and packages
+-- ---- what is beside types and packages
 
 pair_same : {A B : Type 0} {a c : A} {b d : B} → a ≡ c → b ≡ d → ◌≡◌ {A = A × B} (a, b) (c, d)
 pair_same p q = cc (p, q)
@@ -219,16 +216,19 @@ module _ (g h : Graph) (s : IsGraph g) (keeps : Keeps g h) where
   pub instances_kept : (k : ℕ) → instantiated h k ≡ instantiated g k
   instances_kept k = ap (λ m. package_made h (map.get m k)) keeps.nodes ∙ made_same k (node_at g k) refl
 
-  pub beside_kept : (k : ℕ) → node_rest h k ≡ node_rest g k
-  beside_kept k = ap (coded× graph_row.the_row.coded (coded_option package_row.the_row.coded)).code (pair_same wiring_same (instances_kept k))
+  pub beside_kept : (ks : List Key) (k : ℕ) → node_rest h ks k ≡ node_rest g ks k
+  beside_kept ks k = ap coded_rest.code (pair_same wiring_same (pair_same (instances_kept k) refl))
 
 -- and back
-module _ (g h : Graph) (same : (k : ℕ) → node_rest h k ≡ node_rest g k) where
-  both_back : (k : ℕ) → ◌≡◌ {A = Graph × Option Packaged} (wiring_of h, instantiated h k) (wiring_of g, instantiated g k)
-  both_back k = (coded× graph_row.the_row.coded (coded_option package_row.the_row.coded)).inj (wiring_of h, instantiated h k) (wiring_of g, instantiated g k) (same k)
+module _ (g h : Graph) (js ks : List Key) (same : (k : ℕ) → node_rest h ks k ≡ node_rest g js k) where
+  all_back : (k : ℕ) → ◌≡◌ {A = Graph × (Option Packaged × List Key)} (wiring_of h, (instantiated h k, ks)) (wiring_of g, (instantiated g k, js))
+  all_back k = coded_rest.inj (wiring_of h, (instantiated h k, ks)) (wiring_of g, (instantiated g k, js)) (same k)
 
   wiring_back : wiring_of h ≡ wiring_of g
-  wiring_back = ap (λ (p : Graph × Option Packaged). p.0) (both_back 0)
+  wiring_back = ap (λ (p : Graph × (Option Packaged × List Key)). p.0) (all_back 0)
+
+  pub keys_back : ks ≡ js
+  keys_back = ap (λ (p : Graph × (Option Packaged × List Key)). p.1.1) (all_back 0)
 
   pub nodes_back : h.nodes ≡ g.nodes
   nodes_back = ap (λ (x : Graph). x.nodes) wiring_back
@@ -240,18 +240,18 @@ module _ (g h : Graph) (same : (k : ℕ) → node_rest h k ≡ node_rest g k) wh
   exports_back = ap (λ (x : Graph). x.exports) wiring_back
 
   pub instances_back : (k : ℕ) → instantiated h k ≡ instantiated g k
-  instances_back k = ap (λ (p : Graph × Option Packaged). p.1) (both_back k)
+  instances_back k = ap (λ (p : Graph × (Option Packaged × List Key)). p.1.0) (all_back k)
 
 -- what a graph and the packages handed in know, over a collection that grew
 pub known_grown : (g : GraphTypes) (h : Graph) → IsGraph g.graph → Enlarges g.graph h → SamePackages (all_known g) (all_known (record { graph = h; packages = g.packages }))
 known_grown g h s e = record {
   same = λ k. ap (λ (o : Option Content). option_or o (handed_under g k)) ((known_enlarged g.graph h s e).same k);
-  rest = beside_kept g.graph h s (Keeps-enlarged g.graph h e);
+  rest = beside_kept g.graph h s (Keeps-enlarged g.graph h e) (handed_keys g);
 }
 
 -- where no package is new
 pub known_same : (g : GraphTypes) (h : Graph) → IsGraph g.graph → Keeps g.graph h → SameContents (known_of g.graph) (known_of h) → SamePackages (all_known g) (all_known (record { graph = h; packages = g.packages }))
-known_same g h s keeps same = record { same = λ k. ap (λ (o : Option Content). option_or o (handed_under g k)) (same.same k); rest = beside_kept g.graph h s keeps }
+known_same g h s keeps same = record { same = λ k. ap (λ (o : Option Content). option_or o (handed_under g k)) (same.same k); rest = beside_kept g.graph h s keeps (handed_keys g) }
 
 pub worlds_trans : (f g h : Key → Option Content) → SameContents f g → SameContents g h → SameContents f h
 worlds_trans f g h p q = record { same = λ k. q.same k ∙ p.same k }
@@ -298,7 +298,7 @@ module _ (g h i j : Graph) (p : Packaged) (world : WorldId) (k : Key) (w : State
 -- packages are known as before where a package that was handed in was registered
 pub known_more : (g : GraphTypes) (h : Graph) (k : Key) (w : Content) → IsGraph g.graph → Keeps g.graph h → Gets g.graph h k w → known_of g.graph k ≡ None → handed_under g k ≡ Some w
     → SamePackages (all_known g) (all_known (record { graph = h; packages = g.packages }))
-known_more g h k w s keeps gets none handed = record { same = λ l. tested l (same_key l k) refl; rest = beside_kept g.graph h s keeps }
+known_more g h k w s keeps gets none handed = record { same = λ l. tested l (same_key l k) refl; rest = beside_kept g.graph h s keeps (handed_keys g) }
   where
     tested : (l : Key) (b : Bool) → same_key l k ≡ b → option_or (known_of h l) (handed_under g l) ≡ option_or (known_of g.graph l) (handed_under g l)
     tested l false apart = ap (λ (o : Option Content). option_or o (handed_under g l)) (gets.others l apart)

@@ -1,4 +1,6 @@
 pub mod Answers
+pub mod TrackedNames
+pub mod Choosing
 pub mod Matching
 pub mod Numbers
 pub mod Sound

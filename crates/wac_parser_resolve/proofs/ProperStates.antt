@@ -4,6 +4,7 @@ use Rattle.std.proofs.lemmas.Option.{none-some, same_Some}
 use Rattle.std.specs.List.{list_any}
 use Rattle.std.proofs.Common.{◌≡◌, ℕ, zero, suc, List, [], ◌∷◌, Bool, true, false, Option, Some, None, Ok, inl, inr, refl, sym, ap, subst, ◌∙◌}
 use Rattle.wac_types_base.specs.declared.item.ExternKind.{ExternKind}
+use Rattle.wac_types_names.specs.Keys.{Key}
 use Rattle.wac_types_base.specs.Entries.{Name, value_at, names_of}
 use Rattle.wac_types_base.specs.Graph.{node, Among}
 use Rattle.wac_types_base.specs.Collection as s
@@ -75,11 +76,11 @@ spread_formed ns q r i f e =
     let a = ok_of (denoted_by q.0 i) _ r (sym e) in
     all_spread i.span a.0 q r (left_names q.1 ns a.0.item) f (then_ok (needs_instance a.0 InstanceOperation.Spread i.span) _ r a.2)
 
-finished_formed : (g : State) (p : t.PackageName) (w : Stated) (gs : List Given) (b : Bool) (r : State × Denoted) → Formed g → Ok r ≡ finished g p w gs b → Formed r.0
-finished_formed g p w gs b r f e =
-    let x = then_ok (each (argument_fits (p.name, p.version) w) tt gs) _ r e in
+finished_formed : (g : State) (p : t.PackageName) (k : Key) (w : Stated) (gs : List Given) (b : Bool) (r : State × Denoted) → Formed g → Ok r ≡ finished g p k w gs b → Formed r.0
+finished_formed g p k w gs b r f e =
+    let x = then_ok (each (argument_fits k w) tt gs) _ r e in
     let y = then_ok (complete b p gs (names_of (imports_of w))) _ r x in
-    let m : Made = record { key = (p.name, p.version); world = w; arguments = map (λ (a : Given). (a.name, a.denoted)) gs; span = p.span } in
+    let m : Made = record { key = k; world = w; arguments = map (λ (a : Given). (a.name, a.denoted)) gs; span = p.span } in
     subst (λ (q : State × Denoted). Formed q.0) (sym (ok_is r (with_made g m) y)) (record { imports = f.imports; definitions = f.definitions })
 
 mutual
@@ -97,12 +98,12 @@ mutual
   nested_formed g (t.nested_expr s x) r f e = denote_formed g x r f e
 
   new_formed : (g : State) (x : t.NewExpr) (r : State × Denoted) → Formed g → Ok r ≡ new_instance g x → Formed r.0
-  new_formed g (t.new_expr s p xs) r f e =
-      let a = ok_of (new_package g p) _ r e in
-      let ns = names_of (imports_of a.0) in
+  new_formed g (t.new_expr s p track xs) r f e =
+      let a = ok_of (new_package g p track) _ r e in
+      let ns = names_of (imports_of a.0.1) in
       let b = ok_of (arguments g ns [] xs) _ r a.2 in
       let d = ok_of (each (spread_one ns) b.0 (spreads_of xs)) _ r b.2 in
-      finished_formed d.0.0 p a.0 d.0.1 (is_filled xs) r (each_keeps (spread_one ns) (λ (q : State × List Given). Formed q.0) (spread_formed ns) b.0 d.0 (spreads_of xs) (arguments_formed g ns [] xs b.0 f (sym b.1)) (sym d.1)) d.2
+      finished_formed d.0.0 p a.0.0 a.0.1 d.0.1 (is_filled xs) r (each_keeps (spread_one ns) (λ (q : State × List Given). Formed q.0) (spread_formed ns) b.0 d.0 (spreads_of xs) (arguments_formed g ns [] xs b.0 f (sym b.1)) (sym d.1)) d.2
 
   arguments_formed : (g : State) (ns : List Name) (gs : List Given) (xs : t.Arguments) (r : State × List Given) → Formed g → Ok r ≡ arguments g ns gs xs → Formed r.0
   arguments_formed g ns gs t.no_arguments r f e = subst (λ (q : State × List Given). Formed q.0) (sym (ok_is r (g, gs) e)) f

@@ -17,11 +17,11 @@ use Rattle.wac_parser_tree.specs.Trees.{Span}
 use Rattle.wac_parser_refusals.specs.declared.error.InstanceOperation.{InstanceOperation}
 use Rattle.wac_parser_refusals.specs.Causes.{Answer, Cause, Fault, ◌>>◌, pure, unless_clear, needs, present, each, UndefinedName, UnknownPackage, MissingComponentImport, FillArgumentNotLast, DuplicateInstantiationArg, InvalidExternName, ExportRequiresAs, NotAnInstance}
 use Rattle.wac_parser_declare.specs.Packages.{Content}
-use Rattle.wac_parser_declare.specs.Scope.{package_under, bind}
+use Rattle.wac_parser_declare.specs.Scope.{package_under, world_of_package, bind}
 use Rattle.wac_parser_declare.specs.Worlds.{type_statement}
 use Rattle.wac_parser_resolve.specs.Ascribing.{Origin, imported, instance, projected, defined, Denoted, Made, Import, Bound, State, start, root_scope, context, denoted_by, bound, projection, is_projection, same_origin, speak_of, worlds_of}
 use Rattle.wac_parser_tree.specs.Accessors.{argument_name_span as argument_span, postfix_expr_span as postfix_span, primary_expr_span as primary_span}
-use Rattle.wac_parser_resolve.specs.Denoting.{Given, given_names, needs_instance, export_by, export_named, access_by, spoken, access, accesses, add_given, inferred_name, argument_name, left_names, spread_given, spread_all, spread_one, spreads_of, compared_by, argument_fits, complete, is_filled, is_last, with_made, finished, new_package, denote, primary, nested, new_instance, arguments, one_argument, named_argument}
+use Rattle.wac_parser_resolve.specs.Denoting.{Given, given_names, needs_instance, export_by, export_named, access_by, spoken, access, accesses, add_given, inferred_name, argument_name, left_names, spread_given, spread_all, spread_one, spreads_of, compared_by, argument_fits, complete, is_filled, is_last, with_made, finished, key_named, new_package, denote, primary, nested, new_instance, arguments, one_argument, named_argument}
 use Rattle.wac_parser_resolve.specs.Matching.{matched}
 use Rattle.wac_parser_resolve.specs.Saying.{asked, import_name, import_called, not_imported, is_extern_name, with_import, import_statement, not_exported, with_definition, declaration, declared_id, no_definition, new_export, is_exportable, exported, export_name, export_one, export_left, export_as, written_name, expr_span, statement, statements}
 use Rattle.wac_parser_resolve.proofs.Answers.{err_ok, ok_of, then_ok, ok_is, each_keeps}
@@ -299,13 +299,13 @@ module _ (ps : Packages) where
         grows = w;
       }
 
-  finished_denotes : (g : State) (p : t.PackageName) (w : Stated) (gs : List Given) (b : Bool) (r : State × Denoted) → Sound ps g → AllThere g gs → package_under (worlds_of ps) (p.name, p.version) ≡ Some w → Ok r ≡ finished g p w gs b → Denotes g r
-  finished_denotes g p w gs b r s there known e =
-      let u = first_ok (each (argument_fits (p.name, p.version) w) tt gs) _ r e in
-      let x = then_ok (each (argument_fits (p.name, p.version) w) tt gs) _ r e in
+  finished_denotes : (g : State) (p : t.PackageName) (k : Key) (w : Stated) (gs : List Given) (b : Bool) (r : State × Denoted) → Sound ps g → AllThere g gs → package_under (worlds_of ps) k ≡ Some w → Ok r ≡ finished g p k w gs b → Denotes g r
+  finished_denotes g p k w gs b r s there known e =
+      let u = first_ok (each (argument_fits k w) tt gs) _ r e in
+      let x = then_ok (each (argument_fits k w) tt gs) _ r e in
       let y = then_ok (complete b p gs (names_of (imports_of w))) _ r x in
-      let m : Made = record { key = (p.name, p.version); world = w; arguments = map (λ (a : Given). (a.name, a.denoted)) gs; span = p.span } in
-      let given = λ (n : Name) (d : Denoted) (q : value_at m.arguments n ≡ Some d). passed (λ a. HasThat g a.denoted × IsFitting w a) gs n d (λ a k. (there_each g gs there a k, all_fit (p.name, p.version) w gs u.0 (sym u.1) a k)) q in
+      let m : Made = record { key = k; world = w; arguments = map (λ (a : Given). (a.name, a.denoted)) gs; span = p.span } in
+      let given = λ (n : Name) (d : Denoted) (q : value_at m.arguments n ≡ Some d). passed (λ a. HasThat g a.denoted × IsFitting w a) gs n d (λ a i. (there_each g gs there a i, all_fit k w gs u.0 (sym u.1) a i)) q in
       let ok : IsMadeOk ps g (length g.made) m = record {
         known = known;
         has = λ n d q. let a = given n d q in subst (HasThat g) a.2 a.3.0;
@@ -314,10 +314,14 @@ module _ (ps : Packages) where
       } in
       subst (Denotes g) (sym (ok_is r (with_made g m) y)) (record { comes = record_made g m s ok; has = an_instance (length g.made) m (slice_last g.made m) })
 
-  known_package : (g : State) (p : t.PackageName) (w : Stated) → Sound ps g → Ok w ≡ new_package g p → package_under (worlds_of ps) (p.name, p.version) ≡ Some w
-  known_package g p w s e =
-      let x = then_ok (unless_clear (bytes_eq p.name g.own.name) (UnknownPackage p.name) p.span) _ w e in
-      subst (λ qs. package_under (worlds_of qs) (p.name, p.version) ≡ Some w) s.same (present_is (package_under (worlds_of g.packages) (p.name, p.version)) (UnknownPackage p.name) p.span w x)
+  known_package : (g : State) (p : t.PackageName) (track : Option Name) (x : Key × Stated) → Sound ps g → Ok x ≡ new_package g p track → package_under (worlds_of ps) x.0 ≡ Some x.1
+  known_package g p track x s e =
+      let y = then_ok (unless_clear (bytes_eq p.name g.own.name) (UnknownPackage p.name) p.span) _ x e in
+      let k = ok_of (key_named (names_of g.packages) p track) _ x y in
+      let w = ok_of (world_of_package (worlds_of g.packages) k.0 p.span) _ x k.2 in
+      let here = present_is (package_under (worlds_of g.packages) k.0) (UnknownPackage k.0.0) p.span w.0 (sym w.1) in
+      subst (λ (q : Key × Stated). package_under (worlds_of ps) q.0 ≡ Some q.1) (sym (ok_is x (k.0, w.0) w.2))
+      (subst (λ qs. package_under (worlds_of qs) k.0 ≡ Some w.0) s.same here)
 
   -- ---- expressions
 
@@ -345,13 +349,13 @@ module _ (ps : Packages) where
     nested_sound g (t.nested_expr s x) r h e = denote_sound g x r h e
 
     new_sound : (g : State) (x : t.NewExpr) (r : State × Denoted) → Sound ps g → Ok r ≡ new_instance g x → Denotes g r
-    new_sound g (t.new_expr s p xs) r h e =
-        let a = ok_of (new_package g p) _ r e in
-        let ns = names_of (imports_of a.0) in
+    new_sound g (t.new_expr s p track xs) r h e =
+        let a = ok_of (new_package g p track) _ r e in
+        let ns = names_of (imports_of a.0.1) in
         let b = ok_of (arguments g ns [] xs) _ r a.2 in
         let c = ok_of (each (spread_one ns) b.0 (spreads_of xs)) _ r b.2 in
         let all = each_keeps (spread_one ns) (GivesAll g) (spread_name_there g ns) b.0 c.0 (spreads_of xs) (arguments_sound g ns [] xs b.0 h tt (sym b.1)) (sym c.1) in
-        let done = finished_denotes c.0.0 p a.0 c.0.1 (is_filled xs) r all.comes.sound all.there (known_package g p a.0 h (sym a.1)) c.2 in
+        let done = finished_denotes c.0.0 p a.0.0 a.0.1 c.0.1 (is_filled xs) r all.comes.sound all.there (known_package g p track a.0 h (sym a.1)) c.2 in
         record { comes = comes_then g c.0.0 r.0 all.comes done.comes; has = done.has }
 
     arguments_sound : (g : State) (ns : List Name) (gs : List Given) (xs : t.Arguments) (r : State × List Given) → Sound ps g → AllThere g gs → Ok r ≡ arguments g ns gs xs → GivesAll g r

@@ -17,7 +17,7 @@ use Rattle.wac_parser_declare.specs.declared.scope.Binding.{Binding}
 use Rattle.wac_parser_resolve.specs.declared.state.State.{State as Held}
 use Rattle.wac_parser_resolve.specs.Ascribing.{start}
 use Rattle.wac_parser_resolve.specs.Holding.{Says}
-use Rattle.wac_parser_resolve.specs.Knowing.{handed_under, known_in}
+use Rattle.wac_parser_resolve.specs.Knowing.{handed_keys, handed_under, known_in}
 use Rattle.wac_parser_resolve.specs.Said.{AreAsked, AreDeclared, AreExported, IsSaid}
 
 module _ (c : Collection) where
@@ -50,12 +50,13 @@ module _ (c : Collection) where
 
 -- the state of the code that is new
 pub starts_bare : (b : Held) (c : Collection) (d : t.Document) (ps : List (Key × Content)) → b.board.types.graph ≡ with_types c → b.board.instances.noted.items ≡ [] → b.names ≡ [] → b.nodes ≡ []
-    → b.imports.noted.items ≡ [] → b.exports.noted.items ≡ [] → ((k : Key) → handed_under b.board.types k ≡ package_under ps k) → IsSaid d.directive.«package» b (start d ps)
-starts_bare b c d ps graph instances names nodes imports exports handed = record {
+    → b.imports.noted.items ≡ [] → b.exports.noted.items ≡ [] → ((k : Key) → handed_under b.board.types k ≡ package_under ps k) → handed_keys b.board.types ≡ names_of ps → IsSaid d.directive.«package» b (start d ps)
+starts_bare b c d ps graph instances names nodes imports exports handed keys = record {
   board = record {
     says = subst (λ (g : Graph). Says g b.board.instances.noted.items b.nodes (start d ps)) (sym graph)
         (subst (λ (xs : List (ℕ × Span)). Says (with_types c) xs b.nodes (start d ps)) (sym instances) (nothing_said c b.nodes d ps nodes));
     known = λ k. ap (λ (g : Graph). known_in (record { graph = g; packages = b.board.types.packages }) k) graph ∙ handed k;
+    handed = keys;
     own = refl;
   };
   own = refl;

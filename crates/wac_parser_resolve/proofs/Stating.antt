@@ -33,11 +33,11 @@ use Rattle.wac_parser_resolve.specs.declared.packages.GraphTypes.{GraphTypes}
 use Rattle.wac_parser_resolve.specs.declared.state.State.{State as Held}
 use Rattle.wac_parser_resolve.specs.Ascribing.{Bound, Denoted, Import, Made, Origin, State, defined, imported, instance, projected, root_scope}
 use Rattle.wac_parser_resolve.specs.Holding.{AreNamed, Denotes, HasItem, IsDefinition, IsExported, IsMade, IsNamed, IsNode, Says}
-use Rattle.wac_parser_resolve.specs.Knowing.{all_known, handed_under, known_in, content_in}
+use Rattle.wac_parser_resolve.specs.Knowing.{all_known, handed_keys, handed_under, known_in, content_in}
 use Rattle.wac_parser_resolve.specs.Later.{AddsNone, Inner, IsMore, IsWithin, Later, first_name}
 use Rattle.wac_parser_resolve.specs.Said.{AreAsked, AreDeclared, AreExported, IsAsked, IsDeclared, IsNoted, IsOnBoard, IsSaid, last_noted}
 use Rattle.wac_parser_resolve.proofs.Growing.{as_it_was}
-use Rattle.wac_parser_resolve.proofs.Knowing.{edges_back, exports_back, instances_back, nodes_back}
+use Rattle.wac_parser_resolve.proofs.Knowing.{edges_back, exports_back, instances_back, keys_back, nodes_back}
 use Rattle.wac_parser_resolve.proofs.Nodes.{denotes_stays, item_stays, node_stays}
 use Rattle.wac_parser_resolve.proofs.Staying.{says_stay}
 use Rattle.wac_parser_resolve.proofs.Turns.{turn_map}
@@ -314,6 +314,7 @@ said_within own b h s inner none within said =
     (record {
       says = says_stay b.board.types.graph h inner.later none b.board.instances.noted.items b.nodes s said.board.says;
       known = λ k. known_within b.board.types h within k ∙ said.board.known k;
+      handed = said.board.handed;
       own = said.board.own;
     }) said
 
@@ -324,15 +325,18 @@ said_grows own b x s grows same said =
     let g = b.board.types.graph in
     let h = x.graph in
     let ms = names_of b.board.instances.noted.items in
-    let ns = nodes_back g h same.rest in
-    let es = edges_back g h same.rest in
-    let xs = exports_back g h same.rest in
-    let is = instances_back g h same.rest in
+    let js = handed_keys b.board.types in
+    let ks = handed_keys x in
+    let ns = nodes_back g h js ks same.rest in
+    let es = edges_back g h js ks same.rest in
+    let xs = exports_back g h js ks same.rest in
+    let is = instances_back g h js ks same.rest in
     said_carried own b (record b.board { types = x }) s s.made s.aliases
     (carries_grown g h grows ns es xs is ms) (nothing_grown g h grows ns es xs is)
     (record {
       says = says_grown g h grows ns es xs is b.board.instances.noted.items b.nodes s said.board.says;
       known = λ k. same.same k ∙ said.board.known k;
+      handed = keys_back g h js ks same.rest ∙ said.board.handed;
       own = said.board.own;
     }) said
 
@@ -381,6 +385,7 @@ module _ (own : t.PackageName) (b : Held) (s : State) (said : IsSaid own b s) (d
             root = turn_more (IsNamed g ms) s.root b.nodes (i.string, one) (i.string, k) said.board.says.root (record { name = refl; denotes = denotes });
           };
           known = said.board.known;
+          handed = said.board.handed;
           own = said.board.own;
         };
         own = said.own;

@@ -1,6 +1,7 @@
 -- What expressions denote. Each makes its instances, in the order in which they are complete.
-use Rattle.std.specs.Prelude.{Bool, true, false, not, ◌&&◌, List, [], ◌∷◌, ◌++◌, map, length, Option, Some, None, is_some, filter, find, ⊤, bytes_eq, unwrap_or, if◌then◌else◌}
+use Rattle.std.specs.Prelude.{Bool, true, false, not, ◌&&◌, List, [], ◌∷◌, ◌++◌, map, length, Option, Some, None, is_some, filter, find, ⊤, bytes_eq, unwrap_or, option_map, if◌then◌else◌}
 use Rattle.std.specs.Option.{option_or}
+use Rattle.semver.specs.Parse.{Parts}
 use Rattle.wac_types_base.specs.Entries.{Name, value_at, names_of, has_name}
 use Rattle.wac_types_base.specs.Stated.{Stated, Kind, IsInstance, kind_of, desc, exports_of, imports_of, identifier_of, instance_type}
 use Rattle.wac_types_names.specs.Keys.{Key}
@@ -17,6 +18,7 @@ use Rattle.wac_parser_refusals.specs.Causes.{UnknownPackage, NotAnInstance, Miss
 use Rattle.wac_parser_refusals.specs.Causes.{MismatchedInstantiationArg, DuplicateInstantiationArg, MissingInstantiationArg, FillArgumentNotLast, SpreadInstantiationNoMatch}
 use Rattle.wac_parser_refusals.specs.Sources.{between}
 use Rattle.wac_parser_declare.specs.Scope.{world_of_package}
+use Rattle.wac_parser_resolve.specs.Choosing.{greatest_on}
 use Rattle.wac_parser_resolve.specs.Matching.{matched}
 use Rattle.wac_parser_resolve.specs.Ascribing.{Origin, instance, defined, Denoted, Made, State, denoted_by, projection, own_name, speak_of, worlds_of}
 
@@ -151,23 +153,38 @@ abbrev pub with_made : State → Made → State × Denoted
 with_made g m =
     (record g { made = g.made ++ m ∷ [] }, record { origin = instance (length g.made); item = instance_type m.world })
 
--- the arguments of a `new` and its spreads are known: the instance
-abbrev pub finished : State → t.PackageName → Stated → List Given → Bool → Answer (State × Denoted)
-finished g p w gs filled = do
-  each (argument_fits (p.name, p.version) w) tt gs
+-- the arguments of a `new` and its spreads are known: the instance of the package of this key
+abbrev pub finished : State → t.PackageName → Key → Stated → List Given → Bool → Answer (State × Denoted)
+finished g p k w gs filled = do
+  each (argument_fits k w) tt gs
   complete filled p gs (names_of (imports_of w))
   pure (with_made g (record {
-    key = (p.name, p.version);
+    key = k;
     world = w;
     arguments = map
         (λ (a : Given). (a.name, a.denoted)) gs;
     span = p.span;
   }))
 
--- the world of the package that a `new` names: never the document's own
-abbrev pub new_package : State → t.PackageName → Answer Stated
-new_package g p = unless_clear (bytes_eq p.name g.own.name) (UnknownPackage p.name) p.span
-    >> world_of_package (worlds_of g.packages) (p.name, p.version) p.span
+-- ---- the package
+
+abbrev pub version_key : Name → Parts → Key
+version_key n v = (n, Some v)
+
+-- the key that a `new` names: with a track, that of the greatest version on it
+abbrev pub key_named : List Key → t.PackageName → Option Name → Answer Key
+key_named ks p None = pure (p.name, p.version)
+key_named ks p (Some track) =
+    present (option_map (version_key p.name) (greatest_on ks p.name track)) (UnknownPackage p.name) p.span
+
+-- a key with the world of its package
+abbrev pub under_key : List (Key × Stated) → Span → Key → Answer (Key × Stated)
+under_key ws s k = world_of_package ws k s >>= λ w. pure (k, w)
+
+-- the package that a `new` names, with its world: never the document's own
+abbrev pub new_package : State → t.PackageName → Option Name → Answer (Key × Stated)
+new_package g p track = unless_clear (bytes_eq p.name g.own.name) (UnknownPackage p.name) p.span
+    >> (key_named (names_of g.packages) p track >>= under_key (worlds_of g.packages) p.span)
 
 -- ---- expressions
 
@@ -184,11 +201,11 @@ abbrev mutual
   nested g (t.nested_expr s e) = denote g e
 
   pub new_instance : State → t.NewExpr → Answer (State × Denoted)
-  new_instance g (t.new_expr s p as_) = do
-    w ← new_package g p
-    r ← arguments g (names_of (imports_of w)) [] as_
-    q ← each (spread_one (names_of (imports_of w))) r (spreads_of as_)
-    finished q.0 p w q.1 (is_filled as_)
+  new_instance g (t.new_expr s p track as_) = do
+    x ← new_package g p track
+    r ← arguments g (names_of (imports_of x.1)) [] as_
+    q ← each (spread_one (names_of (imports_of x.1))) r (spreads_of as_)
+    finished q.0 p x.0 x.1 q.1 (is_filled as_)
 
   -- the arguments that are no spreads
   pub arguments : State → List Name → List Given → t.Arguments → Answer (State × List Given)

@@ -1,5 +1,5 @@
 -- What is answered of expressions and of new instances, for each state that the code's board holds.
-use Rattle.std.specs.Prelude.{◌≡◌, ℕ, Bool, false, List, [], ◌∷◌, ◌++◌, map, ⊤, Result}
+use Rattle.std.specs.Prelude.{◌≡◌, ℕ, Bool, false, List, [], ◌∷◌, ◌++◌, map, ⊤, Option, option_map, Result}
 use Rattle.wac_types_base.specs.declared.ids.WorldId.{WorldId}
 use Rattle.wac_types_base.specs.Record.{Collection}
 use Rattle.wac_types_base.specs.Entries.{Name, has_name, names_of}
@@ -15,20 +15,21 @@ use Rattle.wac_parser_tree.specs.declared.expr.PrimaryExpr.{PrimaryExpr}
 use Rattle.wac_parser_tree.specs.declared.expr.NewExpr.{NewExpr}
 use Rattle.wac_parser_tree.specs.declared.expr.InstantiationArgument.{InstantiationArgument}
 use Rattle.wac_parser_tree.specs.declared.expr.NamedInstantiationArgument.{NamedInstantiationArgument}
-use Rattle.wac_parser_tree.specs.declared.import.PackageName.{PackageName}
 use Rattle.wac_parser_tree.specs.Views.{view_expr, view_primary_expr, view_new_expr, view_instantiation_argument, view_named_instantiation_argument, view_package_name}
 use Rattle.wac_parser_refusals.specs.declared.refusal.Refusal.{Refusal}
-use Rattle.wac_parser_refusals.specs.Causes.{Answer, ◌>>=◌, each, pure}
+use Rattle.wac_parser_refusals.specs.Causes.{Answer, UnknownPackage, ◌>>=◌, each, present, pure}
 use Rattle.wac_parser_refusals.specs.Outcomes.{IsOutcome}
 use Rattle.wac_parser_resolve.specs.declared.arguments.Given.{Given}
+use Rattle.wac_parser_declare.specs.Packages.{world_if}
 use Rattle.wac_parser_resolve.specs.declared.board.Board.{Board}
+use Rattle.wac_parser_resolve.specs.declared.packages.GraphTypes.{GraphTypes}
 use Rattle.wac_parser_resolve.specs.declared.root.Root.{Root}
 use Rattle.wac_parser_resolve.specs.Ascribing.{Denoted, Made, State}
 use Rattle.wac_parser_resolve.specs.Denoting as stated
-use Rattle.wac_parser_resolve.specs.Denoting.{argument_fits, denote, finished}
+use Rattle.wac_parser_resolve.specs.Denoting.{argument_fits, denote, finished, key_named}
 use Rattle.wac_parser_resolve.specs.Holding.{AreGiven, HasItem, IsGiven, Says, names_given}
 use Rattle.wac_parser_resolve.specs.InArguments.{imported_by}
-use Rattle.wac_parser_resolve.specs.Knowing.{IsPackage}
+use Rattle.wac_parser_resolve.specs.Knowing.{IsPackage, handed_keys, known_in}
 use Rattle.wac_parser_resolve.specs.Said.{IsDenoted, IsOnBoard}
 
 -- the nodes of the instances that were made
@@ -51,14 +52,30 @@ IsPrimary e root b c r = (s : State) → IsOn root b s → IsOutcome (Denoting r
 
 -- ---- the package
 
-abbrev pub named_key : t.PackageName → Key
-named_key p = (p.name, p.version)
+-- the track that a `new` names
+abbrev pub track_of : NewExpr → Option Name
+track_of n = option_map (λ t. t.now) n.track
 
--- the package of the name that a `new` says
-abbrev pub IsNewPackage : PackageName → Root → Board → Board → Result PackageId Refusal → Type 0
-IsNewPackage p root b c r = (s : State) → IsOn root b s
-    → IsOutcome (λ w id. IsOn root c s × IsPackage c.types.graph (named_key (view_package_name p)) w id)
-    (stated.new_package s (view_package_name p)) r
+-- a key with the world of its package, among those that are known
+abbrev pub known_under : GraphTypes → Span → Key → Answer (Key × Stated)
+known_under g s k = present (world_if (known_in g k)) (UnknownPackage k.0) s >>= λ w. pure (k, w)
+
+-- the package that a `new` names, among those
+abbrev pub package_named : GraphTypes → t.PackageName → Option Name → Answer (Key × Stated)
+package_named g p track = key_named (handed_keys g) p track >>= known_under g p.span
+
+-- a package of this key and this world
+abbrev pub HasPackage : Graph → Key × Stated → PackageId → Type 0
+HasPackage g x id = IsPackage g x.0 x.1 id
+
+abbrev pub IsPackageNamed : NewExpr → GraphTypes → GraphTypes → Result PackageId Refusal → Type 0
+IsPackageNamed n old new r = IsOutcome (HasPackage new.graph) (package_named old (view_package_name n.«package») (track_of n)) r
+
+-- the package that a `new` names
+abbrev pub IsNewPackage : NewExpr → Root → Board → Board → Result PackageId Refusal → Type 0
+IsNewPackage n root b c r = (s : State) → IsOn root b s
+    → IsOutcome (λ x id. IsOn root c s × HasPackage c.types.graph x id)
+    (stated.new_package s (view_package_name n.«package») (track_of n)) r
 
 -- ---- arguments
 
@@ -143,10 +160,10 @@ IsWhole n c w xs r = (gs : List stated.Given) → names_given xs ≡ stated.give
     (t.arguments (map view_instantiation_argument n.arguments.items))) (view_package_name n.«package») gs (imported_by c w)) r
 
 abbrev pub IsFinished : NewExpr → Root → Board → PackageId → List Given → Board → Result ℕ Refusal → Type 0
-IsFinished n root b id xs c r = (s : State) (w : Stated) (gs : List stated.Given) → IsOn root b s
-    → IsPackage b.types.graph (named_key (view_package_name n.«package»)) w id
+IsFinished n root b id xs c r = (s : State) (k : Key) (w : Stated) (gs : List stated.Given) → IsOn root b s
+    → IsPackage b.types.graph k w id
     → AreGiven b.types.graph (instances_of b) gs xs
-    → IsOutcome (Denoting root c) (finished s (view_package_name n.«package») w gs
+    → IsOutcome (Denoting root c) (finished s (view_package_name n.«package») k w gs
     (stated.is_filled (t.arguments (map view_instantiation_argument n.arguments.items)))) r
 
 abbrev pub IsNewInstance : NewExpr → Root → Board → Board → Result ℕ Refusal → Type 0

@@ -1,14 +1,15 @@
 -- What is known of packages: those of a graph, then those that are handed in.
 use base.Stored.{Gv}
-use Rattle.std.specs.Prelude.{◌≡◌, ℕ, false, is_some, cond, List, [], ◌∷◌, Option, Some, None, Result}
+use Rattle.std.specs.Prelude.{◌≡◌, ℕ, Bool, false, is_some, cond, List, [], ◌∷◌, Option, Some, None, Result, refl}
 use Rattle.std.specs.Option.{option_and_then, option_or}
-use Rattle.std.specs.Coded.{coded_option, coded×}
+use Rattle.std.specs.Coded.{Coded, code_by, coded_list, coded_option, coded_ℕ, coded×}
 use Rattle.indexmap.specs.IndexMap.{IndexMap, get_by}
+use Rattle.semver.specs.Parse.{Parts}
 use Rattle.wac_types_base.specs.declared.item.ItemKind.{ItemKind}
 use Rattle.wac_types_base.specs.declared.item.«Type».{«Type» as TypeKind}
 use Rattle.wac_types_base.specs.declared.ids.WorldId.{WorldId}
 use Rattle.wac_types_base.specs.Record.{Collection}
-use Rattle.wac_types_base.specs.Entries.{Name, value_at}
+use Rattle.wac_types_base.specs.Entries.{Name, names_of, value_at}
 use Rattle.wac_types_base.specs.Collection.{empty, item_node}
 use Rattle.wac_types_base.specs.Stated.{Stated, exports_of, kind_of, stated_of}
 use Rattle.wac_types_names.specs.declared.package.BorrowedPackageKey.{BorrowedPackageKey}
@@ -27,6 +28,7 @@ use Rattle.wac_parser_declare.specs.Packages.{Content, HoldsIf, Known, world_if}
 use Rattle.wac_parser_declare.specs.Scope.{definition_by, definitions, only_export}
 use Rattle.wac_parser_resolve.specs.declared.packages.GraphTypes.{GraphTypes}
 use Rattle.wac_parser_resolve.specs.declared.packages.PackageRef.{PackageRef}
+use Rattle.wac_parser_resolve.specs.Choosing.{version_on}
 
 -- ---- the packages of a graph
 
@@ -66,9 +68,13 @@ stated_handed p = stated_of p.types.now (ItemKind.Component p.«package».now.ty
 abbrev pub lent_content : PackageRef → Content
 lent_content p = content_of p.types.now p.«package».now
 
--- what it has, where its world stands in its collection
+-- its world stands in its collection
+abbrev pub world_stands : PackageRef → Bool
+world_stands p = is_some (item_node p.types.now (ItemKind.Component p.«package».now.ty))
+
+-- what it has, where its world stands
 abbrev pub handed_content : PackageRef → Option Content
-handed_content p = cond (is_some (item_node p.types.now (ItemKind.Component p.«package».now.ty))) (Some (lent_content p)) None
+handed_content p = cond (world_stands p) (Some (lent_content p)) None
 
 abbrev pub handed_under : GraphTypes → Key → Option Content
 handed_under g k = option_and_then handed_content (get_by (λ key. same_key k (borrowed_key key)) g.packages.now)
@@ -85,23 +91,44 @@ handed_entries (e ∷ es) = with_handed (handed_content e.1) (borrowed_key e.0) 
 abbrev pub handed_list : {S : Type 0} → IndexMap BorrowedPackageKey PackageRef S → List (Key × Content)
 handed_list m = handed_entries m.entries
 
+-- the keys of those whose worlds stand
+abbrev pub handed_keys : GraphTypes → List Key
+handed_keys g = names_of (handed_list g.packages.now)
+
+-- the version of one whose world stands, on a track
+abbrev pub handed_version : Name → BorrowedPackageKey → PackageRef → Option Parts
+handed_version track k p = cond (world_stands p) (version_on track (borrowed_key k)) None
+
 -- the graph's come first
 abbrev pub known_in : GraphTypes → Key → Option Content
 known_in g k = option_or (known_of g.graph k) (handed_under g k)
 
--- ---- what is node_rest them
+-- ---- what is beside them
 
 -- a graph's nodes, edges and exports
 abbrev pub wiring_of : Graph → Graph
 wiring_of g = record { types = empty 0; nodes = g.nodes; edges = g.edges; exports = g.exports; places = [] }
 
--- these, and the package that a node is an instance of, as a ghost value
-abbrev pub node_rest : Graph → ℕ → Gv
-node_rest g k = (coded× graph_row.the_row.coded (coded_option package_row.the_row.coded)).code (wiring_of g, instantiated g k)
+abbrev pub coded_parts : Coded Parts
+coded_parts =
+    code_by (ℕ × (ℕ × (ℕ × (List ℕ × List ℕ))))
+    (coded× coded_ℕ (coded× coded_ℕ (coded× coded_ℕ (coded× (coded_list coded_ℕ) (coded_list coded_ℕ)))))
+    (λ p. (p.0, (p.1, (p.2, (p.3, p.4))))) (λ q. (q.0, q.1.0, q.1.1.0, q.1.1.1.0, q.1.1.1.1)) (λ _. refl)
 
--- what is known of packages, and all else that the graph holds
+abbrev pub coded_keys : Coded (List Key)
+coded_keys = coded_list (coded× (coded_list coded_ℕ) (coded_option coded_parts))
+
+-- a graph's wiring, the package that a node is an instance of, and keys
+unfoldable pub coded_rest : Coded (Graph × (Option Packaged × List Key))
+coded_rest = coded× graph_row.the_row.coded (coded× (coded_option package_row.the_row.coded) coded_keys)
+
+-- these as a ghost value
+abbrev pub node_rest : Graph → List Key → ℕ → Gv
+node_rest g ks k = coded_rest.code (wiring_of g, (instantiated g k, ks))
+
+-- what is known of packages, and all else that the graph holds, with the keys of those that are handed in
 abbrev pub all_known : GraphTypes → Known
-all_known g = record { packages = known_in g; rest = node_rest g.graph }
+all_known g = record { packages = known_in g; rest = node_rest g.graph (handed_keys g) }
 
 -- the package of each key has what it had
 pub record SameContents (f g : Key → Option Content) : Type 0 where

@@ -1,5 +1,7 @@
 -- What holds of each ascribed composition.
 use Rattle.std.specs.Prelude.{◌≡◌, ℕ, Bool, Option, List, Some, Ok, Err, is_ok, slice_get}
+use Rattle.semver.specs.Parse.{Parts}
+use Rattle.wac_types_base.specs.Entries.{names_of}
 use Rattle.wac_types_base.specs.Graph.{Among}
 use Rattle.wac_types_base.specs.Stated.{Stated}
 use Rattle.wac_types_names.specs.Keys.{Key}
@@ -12,11 +14,13 @@ use Rattle.wac_composition.specs.Wired.{composed_wiring}
 use Rattle.wac_composition.specs.Worlds.{composed_world}
 use Rattle.wac_parser_tree.specs.Trees as t
 use Rattle.wac_parser_tree.specs.Bare.{bare}
-use Rattle.wac_parser_tree.specs.Named.{packages_named}
+use Rattle.wac_parser_tree.specs.Named.{Tracked, packages_named, tracks_named}
 use Rattle.wac_parser_refusals.specs.Causes.{Answer}
 use Rattle.wac_parser_declare.specs.Packages.{Content}
 use Rattle.wac_parser_declare.specs.Scope.{package_under}
 use Rattle.wac_parser_resolve.specs.Ascribing.{State, worlds_of}
+use Rattle.wac_parser_resolve.specs.Choosing.{greatest_on}
+use Rattle.wac_parser_resolve.specs.Denoting.{version_key}
 use Rattle.wac_parser_resolve.specs.Meeting.{resolved}
 use Rattle.wac_parser_resolve.specs.Proper.{AreProper}
 use Rattle.wac_parser_resolve.specs.Ascribed.{Asker, ascribed, composition}
@@ -51,10 +55,19 @@ Documents_are_wired = (d : t.Document) (ps : List (Key × Content)) (define : Bo
 
 -- ---- what a document's meaning depends on
 
--- the packages that a document names have the same worlds in both
-abbrev pub NamesTheSame : t.Document → List (Key × Content) → List (Key × Content) → Type 0
-NamesTheSame d ps qs =
-    (k : Key) → Among k (packages_named d) → package_under (worlds_of ps) k ≡ package_under (worlds_of qs) k
+-- the package of a key has the same world in both
+abbrev pub IsTheSame : List (Key × Content) → List (Key × Content) → Key → Type 0
+IsTheSame ps qs k = package_under (worlds_of ps) k ≡ package_under (worlds_of qs) k
+
+-- the greatest version on a track is the same in both, and its package has the same world
+pub record ChoosesTheSame (ps qs : List (Key × Content)) (x : Tracked) : Type 0 where
+  pub greatest : greatest_on (names_of ps) x.0 x.1 ≡ greatest_on (names_of qs) x.0 x.1
+  pub world : (v : Parts) → greatest_on (names_of ps) x.0 x.1 ≡ Some v → IsTheSame ps qs (version_key x.0 v)
+
+-- this holds of the packages and of the tracks that a document names
+pub record NamesTheSame (d : t.Document) (ps qs : List (Key × Content)) : Type 0 where
+  pub packages : (k : Key) → Among k (packages_named d) → IsTheSame ps qs k
+  pub tracks : (x : Tracked) → Among x (tracks_named d) → ChoosesTheSame ps qs x
 
 -- both are accepted, with one wiring, one world and one target, or both are refused
 abbrev pub AreWiredAlike : Answer (Composition Asker ℕ × Option Stated) → Answer (Composition Asker ℕ × Option Stated) → Type 0
@@ -65,7 +78,7 @@ AreWiredAlike (Err a) (Err b) = Unit {0}
 AreWiredAlike x y = ⊥
 
 -- whether a document is accepted depends only on its tree without spans and doc comments, and on the worlds of the packages that
--- it names
+-- it names, by their versions or by tracks
 abbrev pub Acceptance_is_of_trees : Type 0
 Acceptance_is_of_trees = (d e : t.Document) (ps qs : List (Key × Content))
     → bare d ≡ bare e → NamesTheSame d ps qs → is_ok (resolved d ps) ≡ is_ok (resolved e qs)

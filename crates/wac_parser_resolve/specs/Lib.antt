@@ -1,5 +1,6 @@
 pub mod Matching
 pub mod Ascribing
+pub mod Choosing
 pub mod Denoting
 pub mod Saying
 pub mod Meeting

@@ -35,7 +35,7 @@ document n ss = record { docs = []; directive = record { «package» = package_a
 
 -- ` = new PACKAGE { ARGUMENTS }`: the token begins 4 behind the expression
 abbrev pub new_at : ℕ → ℕ → Name → ℕ → List t.InstantiationArgument → t.Expr
-new_at a b n k as_ = t.expr (sp a b) (t.PrimaryExpr.new (t.new_expr (sp a b) (package_at n k 3) (t.arguments as_))) []
+new_at a b n k as_ = t.expr (sp a b) (t.PrimaryExpr.new (t.new_expr (sp a b) (package_at n k 3) None (t.arguments as_))) []
 
 abbrev pub fill_at : ℕ → t.InstantiationArgument
 fill_at a = t.InstantiationArgument.fill (sp a 3)

@@ -16,7 +16,7 @@ use Rattle.wac_parser_resolve.specs.declared.state.State.{State as Held}
 use Rattle.wac_parser_resolve.specs.Ascribing.{Bound, Denoted, Import, State, root_scope}
 use Rattle.std.specs.Option.{option_or}
 use Rattle.wac_parser_resolve.specs.Holding.{AreNamed, Denotes, HasItem, InTurn, IsDefinition, Says}
-use Rattle.wac_parser_resolve.specs.Knowing.{known_in}
+use Rattle.wac_parser_resolve.specs.Knowing.{handed_keys, known_in}
 
 -- ---- what expressions stand on
 
@@ -24,6 +24,7 @@ use Rattle.wac_parser_resolve.specs.Knowing.{known_in}
 pub record IsOnBoard (name : Name) (names : List (Name × ℕ)) (b : Board) (s : State) : Type 0 where
   pub says : Says b.types.graph b.instances.noted.items names s
   pub known : (k : Key) → known_in b.types k ≡ package_under s.packages k
+  pub handed : handed_keys b.types ≡ names_of s.packages
   pub own : s.own.name ≡ name
 
 -- what is denoted, over what is said then

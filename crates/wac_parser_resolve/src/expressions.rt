@@ -24,8 +24,8 @@ use wac_graph_core::{CompositionGraph, NodeId, PackageId};
 use wac_parser_lexer::SourceSpan;
 use wac_parser_refusals::{Error, InstanceOperation, Outcome, Refusal, unknown_package};
 use wac_parser_tree::{
-    Expr, Ident, InstantiationArgument, NamedInstantiationArgument, NewExpr, PackageName,
-    PostfixExpr, PrimaryExpr,
+    Expr, Ident, InstantiationArgument, NamedInstantiationArgument, NewExpr, PostfixExpr,
+    PrimaryExpr,
 };
 use wac_types_base::{Types, WorldId};
 
@@ -98,23 +98,22 @@ fn accesses(
 
 /// The package that an instantiation names: never the document's own.
 fn new_package(
-    name: &PackageName<'_>,
+    new: &NewExpr<'_>,
     root: Root<'_, '_>,
     board: &mut Board<'_>,
 ) -> Outcome<PackageId>
     ensures id { IfOk result (λ id. ContainsPackage board.new.types.graph id) }
-    ensures own { OnOk result (name.now.name.now ≢ root.entry.own.now) }
+    ensures own { OnOk result (new.now.«package».name.now ≢ root.entry.own.now) }
     ensures inner { Inner board.old.types.graph board.new.types.graph }
     ensures noted { board.new.instances ≡ board.old.instances }
-    ensures outcome { IsNewPackage name.now root.entry board.old board.new result }
+    ensures outcome { IsNewPackage new.now root.entry board.old board.new result }
 {
     board.types.graph.see_sound();
+    let name = &new.package;
     if name.name == root.own {
         return Err(unknown_package(root.alloc, name.name, name.span));
     }
-    let id = board
-        .types
-        .package(root.alloc, name.name, name.version.as_ref(), name.span)?;
+    let id = board.types.package_named(root.alloc, new)?;
     Ok(id)
 }
 
@@ -203,7 +202,7 @@ fn instance(new: &NewExpr<'_>, root: Root<'_, '_>, board: &mut Board<'_>) -> Out
     ensures more { OnOk result (IsMore (instances_of board.old) (instances_of board.new)) }
     ensures outcome { IsNewInstance new.now root.entry board.old board.new result }
 {
-    let id = new_package(&new.package, root, board)?;
+    let id = new_package(new, root, board)?;
     let world = world_of(&board.types.graph, id);
     let mut given = Vec::new(root.alloc);
     arguments(&new.arguments, root, board, world, &mut given)?;

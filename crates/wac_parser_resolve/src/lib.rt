@@ -14,11 +14,13 @@ mod spans;
 mod state;
 mod statements;
 mod targets;
+mod tracks;
 
 ghost use Rattle.wac_types_base.specs.declared.item.ItemKind.{ItemKind};
 ghost use Rattle.wac_types_base.specs.Record.{Collection};
 ghost use Rattle.wac_types_base.specs.Stated.{stated_of};
 ghost use Rattle.wac_parser_resolve.specs.Askers.{Definitions_ask_nothing, Askers_have_places};
+ghost use Rattle.wac_parser_resolve.specs.Choosing.{Choices_are_greatest};
 ghost use Rattle.wac_parser_resolve.specs.Laws.{Packages_are_known, Packages_stay, Wirings_are_ordered, Documents_are_wired, Resolved_are_wired, Acceptance_is_of_trees, Wiring_is_of_trees};
 ghost use Rattle.wac_parser_resolve.specs.Proper.{Proper};
 ghost use Rattle.wac_parser_resolve.specs.Refused.{Refusals_stand};
@@ -49,6 +51,11 @@ pub fn packages_are_known()
     ensures { Packages_are_known }
 {}
 
+/// The version that a track means is the greatest on it of those handed in.
+pub fn choices_are_greatest()
+    ensures { Choices_are_greatest }
+{}
+
 /// What is said of a document stays over the packages handed in.
 pub fn packages_stay()
     ensures { Packages_stay }
@@ -73,7 +80,7 @@ pub fn documents_are_wired()
 {}
 
 /// Whether a document is accepted, and its wiring, world and target, depend only on its tree without spans and doc comments, and
-/// on the worlds of the packages that it names.
+/// on the worlds of the packages that it names, by their versions or by tracks.
 pub fn documents_mean_their_trees()
     ensures accepted { Acceptance_is_of_trees }
     ensures wired { Wiring_is_of_trees }

@@ -16,7 +16,7 @@ ghost use Rattle.wac_parser_terms.specs.Ends.{HasEnd};
 ghost use Rattle.wac_parser_terms.specs.Parts as parts;
 
 use crate::base::{behind, expect_value, none_of, parse_token, sees, sees_any, too_deep};
-use crate::package::package_name;
+use crate::package::new_package;
 use crate::text::{ident, string};
 use crate::value_type::through;
 use std::alloc::Global;
@@ -116,13 +116,14 @@ pub fn new_expr<'a>(alloc: Global, lexer: &mut Lexer<'a>, inside: usize) -> Pars
     ensures goes_on { IsBehind lexer.new lexer.old }
 {
     let start = parse_token(lexer, Token::NewKeyword)?;
-    let package = package_name(alloc, lexer)?;
+    let (package, track) = new_package(alloc, lexer)?;
     parse_token(lexer, Token::OpenBrace)?;
     let arguments = arguments(alloc, lexer, inside)?;
     let close = parse_token(lexer, Token::CloseBrace)?;
     Ok(NewExpr {
         span: through(start, close),
         package,
+        track,
         arguments,
     })
 }

@@ -21,6 +21,6 @@ pub use first::{
 };
 pub use function::{FUNC_FIRST, func_params, func_type, func_type_ref, named_type, result_list};
 pub use lookahead::Lookahead;
-pub use package::{package_name, package_path};
+pub use package::{new_package, package_name, package_path};
 pub use text::{doc_comments, ident, string};
 pub use value_type::{MAX_LEVELS, TYPE_FIRST, parse_optional_payload, value_ty};

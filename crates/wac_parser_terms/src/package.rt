@@ -12,8 +12,9 @@ ghost use Rattle.semver.specs.Parse.{version_parts};
 ghost use Rattle.wac_parser_grammar.specs.declared.error.Error.TheVariants.{Memory};
 ghost use Rattle.wac_parser_grammar.specs.Faults as fault;
 ghost use Rattle.wac_parser_grammar.specs.Names as grammar;
+ghost use Rattle.wac_parser_grammar.specs.Tracks as tracks;
 ghost use Rattle.wac_parser_terms.specs.Ends.{HasEnd};
-ghost use Rattle.wac_parser_terms.specs.Views.{view_text};
+ghost use Rattle.wac_parser_terms.specs.Views.{view_text, view_new_package};
 
 use crate::base::parse_token;
 use semver::Version;
@@ -21,6 +22,7 @@ use std::alloc::{AllocError, Global};
 use wac_parser_grammar::{Error, ParseResult};
 use wac_parser_lexer::{Lexer, SourceSpan, Token};
 use wac_parser_tree::{PackageName, PackagePath};
+use wac_types_names::is_track;
 
 /// What stands before the first `mark` of a text, and what behind it.
 fn split_at_mark(text: &str, mark: char) -> (&str, Option<&str>)
@@ -108,6 +110,57 @@ pub fn package_name<'a>(alloc: Global, lexer: &mut Lexer<'a>) -> ParseResult<Pac
         version,
         span,
     })
+}
+
+/// The text behind the `@` of a name, where it is a version track.
+fn track_in(text: Option<&str>) -> Option<&str>
+    ensures { view_text result ≡ tracks.track_in (view_text text.entry) }
+{
+    match text {
+        Some(text) => { if is_track(text) { Some(text) } else { None } }
+        None => None,
+    }
+}
+
+/// The version behind the `@` of a name that stands at a span; beside a track there is none.
+fn version_beside(
+    alloc: Global,
+    track: Option<&str>,
+    version: Option<&str>,
+    span: SourceSpan,
+) -> ParseResult<Option<Version>>
+    requires { HasEnd span }
+    ensures { (s : Input) → Reads (option_map parts_of)
+        (grammar.version_beside (view_text track.entry) (view_text version.entry) span) s result s }
+{
+    match track {
+        Some(_) => Ok(None),
+        None => version_of(alloc, version, span),
+    }
+}
+
+/// The package of a `new`, and the version track that may stand in place of its version.
+#[tactic(auto, using(crate::proofs::Places::places), unfolding(wac_parser_grammar::specs::Names::new_package))]
+pub fn new_package<'a>(
+    alloc: Global,
+    lexer: &mut Lexer<'a>,
+) -> ParseResult<(PackageName<'a>, Option<&'a str>)>
+    ensures value { Reads view_new_package grammar.new_package lexer.old result lexer.new }
+    ensures takes { OnOk result (left lexer.new < left lexer.old) }
+    ensures goes_on { IsBehind lexer.new lexer.old }
+{
+    let span = parse_token(lexer, Token::PackageName)?;
+    let string = lexer.source(span);
+    let (name, version) = split_at_mark(string, '@');
+    let track = track_in(version);
+    let version = version_beside(alloc, track, version, span)?;
+    let package = PackageName {
+        string,
+        name,
+        version,
+        span,
+    };
+    Ok((package, track))
 }
 
 /// A path into a package, with its version.

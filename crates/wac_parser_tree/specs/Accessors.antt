@@ -25,7 +25,7 @@ abbrev pub expr_span : t.Expr → Span
 expr_span (t.expr span _ _) = span
 
 abbrev pub new_expr_span : t.NewExpr → Span
-new_expr_span (t.new_expr span _ _) = span
+new_expr_span (t.new_expr span _ _ _) = span
 
 abbrev pub nested_expr_span : t.NestedExpr → Span
 nested_expr_span (t.nested_expr span _) = span

@@ -223,7 +223,7 @@ abbrev mutual
   bare_primary (t.PrimaryExpr.ident i) = t.PrimaryExpr.ident (bare_ident i)
 
   pub bare_new : t.NewExpr → t.NewExpr
-  bare_new (t.new_expr s p as_) = t.new_expr nowhere (bare_package_name p) (bare_arguments as_)
+  bare_new (t.new_expr s p track as_) = t.new_expr nowhere (bare_package_name p) track (bare_arguments as_)
 
   pub bare_nested : t.NestedExpr → t.NestedExpr
   bare_nested (t.nested_expr s e) = t.nested_expr nowhere (bare_expr e)

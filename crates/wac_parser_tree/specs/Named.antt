@@ -53,33 +53,43 @@ in_type_statement (t.TypeStatement.ty d) = []
 
 -- ---- expressions
 
-abbrev mutual
-  pub in_expr : t.Expr → List Named
-  in_expr (t.expr s p ps) = in_primary p
+-- what each `new` gives, by its package and the version track that it may name
+module _ {X : Type 0} (named : t.PackageName → Option (List ℕ) → List X) where
+  abbrev mutual
+    pub from_expr : t.Expr → List X
+    from_expr (t.expr s p ps) = from_primary p
 
-  pub in_primary : t.PrimaryExpr → List Named
-  in_primary (t.PrimaryExpr.new x) = in_new x
-  in_primary (t.PrimaryExpr.nested x) = in_nested x
-  in_primary (t.PrimaryExpr.ident i) = []
+    pub from_primary : t.PrimaryExpr → List X
+    from_primary (t.PrimaryExpr.new x) = from_new x
+    from_primary (t.PrimaryExpr.nested x) = from_nested x
+    from_primary (t.PrimaryExpr.ident i) = []
 
-  pub in_new : t.NewExpr → List Named
-  in_new (t.new_expr s p as_) = (p.name, p.version) ∷ in_arguments as_
+    pub from_new : t.NewExpr → List X
+    from_new (t.new_expr s p track as_) = named p track ++ from_arguments as_
 
-  pub in_nested : t.NestedExpr → List Named
-  in_nested (t.nested_expr s e) = in_expr e
+    pub from_nested : t.NestedExpr → List X
+    from_nested (t.nested_expr s e) = from_expr e
 
-  pub in_arguments : t.Arguments → List Named
-  in_arguments t.no_arguments = []
-  in_arguments (t.argument a as_) = in_argument a ++ in_arguments as_
+    pub from_arguments : t.Arguments → List X
+    from_arguments t.no_arguments = []
+    from_arguments (t.argument a as_) = from_argument a ++ from_arguments as_
 
-  pub in_argument : t.InstantiationArgument → List Named
-  in_argument (t.InstantiationArgument.inferred i) = []
-  in_argument (t.InstantiationArgument.spread i) = []
-  in_argument (t.InstantiationArgument.named a) = in_named_argument a
-  in_argument (t.InstantiationArgument.fill s) = []
+    pub from_argument : t.InstantiationArgument → List X
+    from_argument (t.InstantiationArgument.inferred i) = []
+    from_argument (t.InstantiationArgument.spread i) = []
+    from_argument (t.InstantiationArgument.named a) = from_named_argument a
+    from_argument (t.InstantiationArgument.fill s) = []
 
-  pub in_named_argument : t.NamedInstantiationArgument → List Named
-  in_named_argument (t.named_argument n e) = in_expr e
+    pub from_named_argument : t.NamedInstantiationArgument → List X
+    from_named_argument (t.named_argument n e) = from_expr e
+
+-- a `new` that names a track names no version
+abbrev pub in_new : t.PackageName → Option (List ℕ) → List Named
+in_new p None = (p.name, p.version) ∷ []
+in_new p (Some track) = []
+
+abbrev pub in_expr : t.Expr → List Named
+in_expr e = from_expr in_new e
 
 -- ---- documents
 
@@ -101,3 +111,23 @@ in_target (Some p) = in_path p
 
 abbrev pub packages_named : t.Document → List Named
 packages_named d = flat_map in_statement d.statements ++ in_target d.directive.targets
+
+-- ---- version tracks
+
+-- a package's name and a track of its versions
+abbrev pub Tracked : Type 0
+Tracked = List ℕ × List ℕ
+
+abbrev pub track_in_new : t.PackageName → Option (List ℕ) → List Tracked
+track_in_new p None = []
+track_in_new p (Some track) = (p.name, track) ∷ []
+
+abbrev pub tracks_in_statement : t.Statement → List Tracked
+tracks_in_statement (t.Statement.import x) = []
+tracks_in_statement (t.Statement.ty x) = []
+tracks_in_statement (t.Statement.let_ x) = from_expr track_in_new x.expr
+tracks_in_statement (t.Statement.export x) = from_expr track_in_new x.expr
+
+-- the tracks that a document names, in the order in which it does
+abbrev pub tracks_named : t.Document → List Tracked
+tracks_named d = flat_map tracks_in_statement d.statements

@@ -294,7 +294,7 @@ mutual
     ident : Ident → PrimaryExpr
 
   pub data NewExpr : Type 0 where
-    new_expr : Span → PackageName → Arguments → NewExpr
+    new_expr : Span → PackageName → Option (List ℕ) → Arguments → NewExpr
 
   pub data InstantiationArgument : Type 0 where
     inferred : Ident → InstantiationArgument

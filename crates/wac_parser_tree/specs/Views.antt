@@ -392,7 +392,7 @@ abbrev nested_step : Layer NestedExpr-F → t.NestedExpr
 nested_step x = t.nested_expr x.span x.inner.value
 
 abbrev new_step : Layer NewExpr-F → t.NewExpr
-new_step x = t.new_expr x.span (view_package_name x.«package») (t.arguments x.arguments.items)
+new_step x = t.new_expr x.span (view_package_name x.«package») (option_map (λ t. t.now) x.track) (t.arguments x.arguments.items)
 
 abbrev pub view_expr : Expr → t.Expr
 view_expr =

@@ -45,14 +45,17 @@ impl Drop for PrimaryExpr<'_> {
     }
 }
 
-/// An instantiation `new PACKAGE { ARGUMENTS }`.
+/// An instantiation `new PACKAGE { ARGUMENTS }`, where the package may have a version, or a version track as in
+/// `new a:b@0.2 { ... }`.
 #[cycle(expr)]
 #[derive(Debug, Drop)]
 pub struct NewExpr<'a> {
     /// Where the instantiation stands.
     pub span: SourceSpan,
-    /// The package to instantiate.
+    /// The package to instantiate. Where a track is named it has no version, and its text is the whole token.
     pub package: PackageName<'a>,
+    /// The version track behind the `@`: `1`, or `0.2` below 1.0. The package with the greatest version on it is meant.
+    pub track: Option<&'a str>,
     /// The arguments, in order.
     pub arguments: Vec<InstantiationArgument<'a>>,
 }
@@ -190,6 +193,7 @@ impl<'a> NewExpr<'a> {
         Ok(NewExpr {
             span: self.span,
             package: self.package.clone(alloc)?,
+            track: self.track,
             arguments: clone_arguments(alloc, &self.arguments)?,
         })
     }

@@ -19,5 +19,5 @@ pub use wac_types_merge::{
 pub use wac_types_names::{
     Adding, BorrowedKey, BorrowedPackageKey, NameMap, NameMapError, NameMapIntern, NameMapNoIntern,
     Package, PackageKey, alternate_lookup_key, are_semver_compatible, compatible_names, copy_world,
-    examples, one_name_a_version, order_of_insertion, same_key,
+    examples, is_track, one_name_a_version, order_of_insertion, same_key, tracks_end_lookup_keys,
 };

@@ -1,5 +1,7 @@
 pub mod Places
 pub mod TrackTexts
+pub mod TrackNames
+pub mod TrackKeys
 pub mod VersionOrder
 pub mod Latest
 pub mod Maps

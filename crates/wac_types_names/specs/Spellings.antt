@@ -1,5 +1,5 @@
 -- The names of a map as it keeps them, each with its track.
-use Rattle.std.specs.Prelude.{◌≡◌, ◌≢◌, ◌<◌, ◌==◌, ℕ, List, [], ◌∷◌, map, length, Option, Some, None, slice_get, if◌then◌else◌}
+use Rattle.std.specs.Prelude.{◌≡◌, ◌≢◌, ◌<◌, ◌==◌, ℕ, List, [], ◌∷◌, length, Option, Some, None, slice_get, if◌then◌else◌}
 use Rattle.std.specs.Option.{option_map}
 use Rattle.std.specs.List.{AllByRecursion}
 use Rattle.std.specs.Ordering.{is_gt}
@@ -9,7 +9,7 @@ use Rattle.std.specs.declared.cmp.Ordering.TheVariants as order
 use Rattle.semver.specs.Parse.{Parts}
 use Rattle.semver.specs.Identifiers.{parts_of}
 use Rattle.semver.specs.declared.Version.{Version}
-use Rattle.wac_types_base.specs.Entries.{Name, AreDistinct}
+use Rattle.wac_types_base.specs.Entries.{Name}
 use Rattle.wac_types_names.specs.declared.spelling.Spelling.{Spelling}
 use Rattle.wac_types_names.specs.declared.spelling.Track.{Track}
 use Rattle.wac_types_names.specs.Versions.{version_cmp}

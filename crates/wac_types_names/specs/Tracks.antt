@@ -1,5 +1,5 @@
 -- Version tracks: names that differ only in versions that are compatible with one another.
-use Rattle.std.specs.Prelude.{◌≡◌, ◌==◌, ℕ, List, ◌∷◌, ◌++◌, length, Option, Some, None, Bool, nat_lt, if◌then◌else◌, ◌⊎◌}
+use Rattle.std.specs.Prelude.{◌≡◌, ◌==◌, ◌<◌, ◌^◌, ℕ, List, ◌∷◌, ◌++◌, length, Option, Some, None, Bool, nat_lt, if◌then◌else◌, ◌⊎◌}
 use Rattle.std.specs.List.{list_any, before_first, after_first}
 use Rattle.std.specs.Result.{result_ok}
 use Rattle.std.specs.Fmt.{decimal}
@@ -34,6 +34,14 @@ track_text p =
     else if nat_lt 0 p.0 then Some (decimal p.0)
     else if nat_lt 0 p.1 then Some (48 ∷ 46 ∷ decimal p.1)
     else None
+
+-- a number from 1 that 64 bits hold, in decimal digits
+abbrev pub IsTrackNumber : List ℕ → Type 0
+IsTrackNumber t = (n : ℕ) × (0 < n) × (n < 2 ^ 64) × (t ≡ decimal n)
+
+-- The text names a track: it is such a number, or one behind `0.`.
+abbrev pub IsTrack : List ℕ → Type 0
+IsTrack t = IsTrackNumber t ⊎ ((minor : List ℕ) × IsTrackNumber minor × (t ≡ 48 ∷ 46 ∷ minor))
 
 abbrev pub key_with : Name → Parts → Option (List ℕ) → Option (Name × Parts)
 key_with front p None = None

@@ -1,9 +1,10 @@
 //! Laws over the definitions alone: each is the contract of a function without a body.
 
-ghost use Rattle.std.specs.Prelude.{◌≡◌, List, [], Option, Some, None, codes};
+ghost use Rattle.std.specs.Prelude.{◌≡◌, ◌↔◌, ◌∷◌, ◌++◌, ℕ, List, [], Option, Some, None, codes, false};
+ghost use Rattle.std.specs.List.{list_any};
 ghost use Rattle.semver.specs.Parse.{Parts};
 ghost use Rattle.wac_types_base.specs.Entries.{Name, names_of, AreDistinct};
-ghost use Rattle.wac_types_names.specs.Tracks.{lookup_key, AreCompatible, IsOnTrack};
+ghost use Rattle.wac_types_names.specs.Tracks.{lookup_key, AreCompatible, IsOnTrack, IsTrack, is_at};
 ghost use Rattle.wac_types_names.specs.NameMaps.{Gives, SameEntries};
 
 /// Compatibility of names is an equivalence.
@@ -22,6 +23,12 @@ pub fn one_name_a_version()
 pub fn order_of_insertion<V>()
     ensures { (es fs : List (Name × V)) (asked : Name) (r s : Option V) → AreDistinct (names_of es) → SameEntries es fs
         → Gives es asked r → Gives fs asked s → r ≡ s }
+{}
+
+/// A text is a track exactly where the lookup key of some version of a name has it behind its `@`.
+pub fn tracks_end_lookup_keys()
+    ensures { (n : Name) (t : List ℕ) → list_any is_at n ≡ false
+        → IsTrack t ↔ ((text : List ℕ) × (p : Parts) × (lookup_key (n ++ 64 ∷ text) ≡ Some (n ++ 64 ∷ t, p))) }
 {}
 
 /// Lookup keys of names from outside.

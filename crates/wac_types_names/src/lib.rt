@@ -11,9 +11,11 @@ mod spelling;
 mod track;
 
 pub use adding::{Adding, copy_world};
-pub use laws::{compatible_names, examples, one_name_a_version, order_of_insertion};
+pub use laws::{
+    compatible_names, examples, one_name_a_version, order_of_insertion, tracks_end_lookup_keys,
+};
 pub use names::{
     NameMap, NameMapError, NameMapIntern, NameMapNoIntern, alternate_lookup_key,
-    are_semver_compatible,
+    are_semver_compatible, is_track,
 };
 pub use package::{BorrowedKey, BorrowedPackageKey, Package, PackageKey, same_key};

@@ -1,6 +1,6 @@
 //! Names on version tracks, and maps from names.
 
-ghost use Rattle.std.specs.Prelude.{◌≡◌, ◌≢◌, ◌↔◌, ℕ, List, Option, Some, None, Ok, Err, [], ◌∷◌, ◌++◌, false, true, OnOk, OnErr, IfOk, IfErr, IfSome, length, option_map, option_copied, is_some, map, string_bytes};
+ghost use Rattle.std.specs.Prelude.{◌≡◌, ◌≢◌, ◌↔◌, ℕ, List, Option, Some, None, Ok, Err, [], ◌∷◌, ◌++◌, false, true, IsOk, OnOk, OnErr, IfOk, IfErr, IfSome, length, option_map, option_copied, is_some, map, string_bytes};
 ghost use Rattle.std.specs.Map.{lookup};
 ghost use Rattle.std.specs.Map.Iter.{ShowsInOrder, deref_pair};
 ghost use Rattle.wac_types_base.specs.Entries.{Name, IsNew, names_of, put_entry, AreDistinct};
@@ -8,7 +8,7 @@ ghost use Rattle.wac_types_base.specs.Graph.{Among};
 ghost use Rattle.wac_types_names.specs.NameMaps.{by_name, by_key, KnowsKeys, HasOneKey, KeysLast, Gives, put_value, IsExact, IsLatestOn};
 
 use crate::spelling::{Spelling, latest_on};
-pub use crate::track::{alternate_lookup_key, are_semver_compatible};
+pub use crate::track::{alternate_lookup_key, are_semver_compatible, is_track};
 use indexmap::IndexMap;
 use indexmap::map::Iter;
 use std::alloc::{AllocError, AllocFailed, Global};
@@ -266,6 +266,19 @@ impl<K: Clone + Eq + Hash, V: Drop> NameMap<K, V> {
             return Ok(None);
         };
         Ok(self.latest(track))
+    }
+
+    /// The value with the greatest version of those whose name has this lookup key, such as `a:b/c@1` or `a:b/c@0.2`.
+    pub fn get_track<I: NameMapIntern<Key = K>>(
+        &self,
+        _alloc: Global,
+        key: &str,
+        _cx: &I,
+    ) -> Result<Option<&V>, AllocError>
+        ensures latest { IfOk result (λ o. IsLatestOn (by_name self.now) key.now (option_copied o)) }
+        ensures given { IsOk result }
+    {
+        Ok(self.latest(key))
     }
 
     /// The definition with the greatest version on a track.

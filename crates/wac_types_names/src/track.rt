@@ -3,7 +3,7 @@
 ghost use Rattle.std.specs.Prelude.{◌≡◌, position, ◌↔◌, ◌<◌, ◌≤◌, ◌+◌, ◌==◌, ℕ, length, drop, take, slice_index, Some, None, IsTrue, IsOk, IfOk, option_map, MatchOption};
 ghost use Rattle.std.specs.List.{position_or_len};
 ghost use Rattle.semver.specs.Identifiers.{parts_of};
-ghost use Rattle.wac_types_names.specs.Tracks.{read_version, track_text, lookup_key, AreCompatible, key_view};
+ghost use Rattle.wac_types_names.specs.Tracks.{read_version, track_text, lookup_key, AreCompatible, IsTrack, IsTrackNumber, key_view};
 
 use semver::{Error, Version};
 use std::alloc::{AllocError, Global};
@@ -79,6 +79,26 @@ pub fn alternate_lookup_key(
                 Some(len) => Ok(Some((&name[..front.len() + 1 + len], version))),
             },
         },
+    }
+}
+
+/// Whether a text is a number from 1 that 64 bits hold, in decimal digits without a leading zero.
+fn is_track_number(text: &str) -> bool
+    ensures { IsTrue result ↔ IsTrackNumber text.now }
+{
+    match text.as_bytes().first() {
+        Some(first) if *first > b'0' => text.parse::<u64>().is_ok(),
+        _ => false,
+    }
+}
+
+/// Whether a text names a version track, as `1` and `0.2` do: whether a lookup key can have it behind its `@`.
+pub fn is_track(text: &str) -> bool
+    ensures { IsTrue result ↔ IsTrack text.now }
+{
+    match text.strip_prefix("0.") {
+        Some(minor) => is_track_number(minor),
+        None => is_track_number(text),
     }
 }
 

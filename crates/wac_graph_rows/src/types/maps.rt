@@ -1,8 +1,9 @@
-//! Maps from names: lines `insert NAME NUMBER`, `shadow NAME NUMBER`, `get NAME` and `entries`.
+//! Maps from names: lines `insert NAME NUMBER`, `shadow NAME NUMBER`, `get NAME`, `get_track KEY` and `entries`.
 
 ghost use Rattle.std.specs.Prelude.{Some, string_bytes};
 ghost use Rattle.wac_types_names.specs.NameMaps.{KnowsKeys};
 
+use std::alloc::AllocError;
 use wac_rows::{Told, Words};
 use wac_types::{NameMap, NameMapNoIntern};
 
@@ -22,15 +23,27 @@ fn insert(map: &mut Numbers, told: &mut Told, words: &mut Words<'_>, shadows: bo
     }
 }
 
-/// Tells the number of a name.
-fn tell_number(map: &Numbers, told: &mut Told, name: &str)
-    requires known { KnowsKeys (λ k. Some (string_bytes k)) map.now }
-{
-    match map.get(told.alloc(), name, &NameMapNoIntern) {
+/// Tells a number that was found.
+fn tell_found(told: &mut Told, found: Result<Option<&u64>, AllocError>) {
+    match found {
         Ok(Some(number)) => told.show(number),
         Ok(None) => told.push("nothing"),
         Err(_) => told.push("out of memory"),
     }
+}
+
+/// Tells the number of a name.
+fn tell_number(map: &Numbers, told: &mut Told, name: &str)
+    requires known { KnowsKeys (λ k. Some (string_bytes k)) map.now }
+{
+    let found = map.get(told.alloc(), name, &NameMapNoIntern);
+    tell_found(told, found);
+}
+
+/// Tells the number of the greatest version on a track.
+fn tell_latest(map: &Numbers, told: &mut Told, key: &str) {
+    let found = map.get_track(told.alloc(), key, &NameMapNoIntern);
+    tell_found(told, found);
 }
 
 /// Tells the names and their numbers, in order.
@@ -56,6 +69,7 @@ fn tell_step(map: &mut Numbers, told: &mut Told, line: &str)
         "insert" => insert(map, told, &mut words, false),
         "shadow" => insert(map, told, &mut words, true),
         "get" => tell_number(map, told, words.take()),
+        "get_track" => tell_latest(map, told, words.take()),
         "entries" => tell_entries(map, told),
         _ => told.push("no such line of maps"),
     }

@@ -1,11 +1,11 @@
-//! Names: `key NAME`, `compatible A B`, and `order A B` of keys of packages, each as `a:b` or `a:b@1.2.3`.
+//! Names: `key NAME`, `track TEXT`, `compatible A B`, and `order A B` of keys of packages, each as `a:b` or `a:b@1.2.3`.
 
 use semver::Version;
 use std::alloc::{AllocError, Global};
 use wac_rows::{Told, Words};
 use wac_types::{
     BorrowedKey, BorrowedPackageKey, PackageKey, alternate_lookup_key, are_semver_compatible,
-    same_key,
+    is_track, same_key,
 };
 
 /// Tells the track of a name, and its version.
@@ -21,11 +21,15 @@ fn tell_key(told: &mut Told, name: &str) {
     }
 }
 
+/// Tells yes or no.
+fn tell_answer(told: &mut Told, yes: bool) {
+    told.push(if yes { "yes" } else { "no" });
+}
+
 /// Tells whether two names are equal or on one track.
 fn tell_compatible(told: &mut Told, a: &str, b: &str) {
     match are_semver_compatible(told.alloc(), a, b) {
-        Ok(true) => told.push("yes"),
-        Ok(false) => told.push("no"),
+        Ok(yes) => tell_answer(told, yes),
         Err(_) => told.push("out of memory"),
     }
 }
@@ -75,6 +79,7 @@ fn tell_line(told: &mut Told, line: &str) {
     let (what, a, b) = (words.take(), words.take(), words.take());
     match what {
         "key" => tell_key(told, a),
+        "track" => tell_answer(told, is_track(a)),
         "compatible" => tell_compatible(told, a, b),
         "order" => tell_order(told, a, b),
         _ => told.push("no such line of names"),

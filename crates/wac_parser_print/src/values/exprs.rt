@@ -1,13 +1,13 @@
 //! Values of expressions.
 
-ghost use Rattle.std.specs.Prelude.{◌≡◌, IfOk};
+ghost use Rattle.std.specs.Prelude.{◌≡◌, IfOk, option_map};
 ghost use Rattle.serde_json.specs.View.{view};
 ghost use Rattle.wac_parser_tree.specs.Trees as t;
-ghost use Rattle.serde_json.specs.Data.{array};
+ghost use Rattle.serde_json.specs.Data.{array, string};
 ghost use Rattle.wac_parser_tree.specs.Views.{view_access_expr, view_expr, view_instantiation_argument, view_instantiation_argument_name, view_named_access_expr};
 ghost use Rattle.wac_parser_tree.specs.Views.{view_named_instantiation_argument, view_nested_expr, view_new_expr, view_postfix_expr, view_primary_expr};
 ghost use Rattle.wac_parser_print.specs.Views.{view_arguments};
-ghost use Rattle.wac_parser_print.specs.Objects.{Gives};
+ghost use Rattle.wac_parser_print.specs.Objects.{Gives, or_null};
 ghost use Rattle.wac_parser_print.specs.Values as values;
 
 use super::members::{Object, pair, variant};
@@ -73,6 +73,16 @@ pub(crate) fn argument_name(
     }
 }
 
+/// The text of a version track, or null.
+fn track(alloc: Global, track: Option<&str>) -> Result<Value, AllocError>
+    ensures { Gives result (or_null string (option_map (λ t. t.now) track.entry)) }
+{
+    match track {
+        Some(track) => Value::try_from_str(alloc, track),
+        None => Ok(Value::Null),
+    }
+}
+
 #[cycle(expr)]
 #[tactic(auto, unfolding(crate::specs::Values::expr))]
 pub(crate) fn expr(alloc: Global, expr: &Expr<'_>) -> Result<Value, AllocError>
@@ -116,10 +126,12 @@ pub(crate) fn new_expr(alloc: Global, made: &NewExpr<'_>) -> Result<Value, Alloc
 {
     let at = span(alloc, made.span);
     let package = package_name(alloc, &made.package);
+    let track = track(alloc, made.track);
     let arguments = arguments(alloc, &made.arguments);
     Object::new(alloc)
         .with("span", at)
         .with("package", package)
+        .with("track", track)
         .with("arguments", arguments)
         .into_value()
 }

@@ -2,7 +2,7 @@
 use Rattle.wac_parser_grammar.specs.Expressions.{expr}
 use Rattle.wac_parser_grammar.specs.Names as n
 use Rattle.wac_parser_grammar.proofs.ExprLaws.{expr_exact, expr_takes, instantiation_argument_begins}
-use Rattle.wac_parser_grammar.proofs.TableBack.{ident_back, string_back, package_name_back, package_path_back, value_type_back}
+use Rattle.wac_parser_grammar.proofs.TableBack.{ident_back, string_back, package_name_back, new_package_back, package_path_back, value_type_back}
 use Rattle.wac_parser_grammar.proofs.TableBackFuncs.{named_type_back, func_type_back, func_type_ref_back}
 use Rattle.wac_parser_grammar.proofs.TableBackDecls.{variant_case_back, variant_decl_back, field_back, record_decl_back, flag_back, flags_decl_back, enum_case_back, enum_decl_back, type_alias_kind_back, type_alias_back}
 use Rattle.wac_parser_grammar.proofs.TableBackResources.{constructor_back, method_back, resource_method_back, resource_decl_back}
@@ -20,6 +20,7 @@ returns c = record {
   ident = record { taken = λ s x r fits h stops. ident_back s x r h };
   string = record { taken = λ s x r fits h stops. string_back s x r h };
   package_name = record { taken = λ s x r fits h stops. package_name_back s x r h };
+  new_package = record { taken = λ s x r fits h stops. new_package_back s x r h };
   package_path = record { taken = λ s x r fits h stops. package_path_back s x r h };
   named_type = record { taken = named_type_back };
   func_type = record { taken = func_type_back };

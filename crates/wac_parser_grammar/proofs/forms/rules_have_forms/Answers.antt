@@ -5,7 +5,7 @@ use Rattle.wac_parser_grammar.specs.Forms.{Part}
 use Rattle.wac_parser_grammar.specs.FormLaws.{HasForm}
 use Rattle.wac_parser_grammar.proofs.ExprLaws.{expr_exact, expr_takes, instantiation_argument_begins}
 use Rattle.wac_parser_grammar.proofs.TableLaws.{Within}
-use Rattle.wac_parser_grammar.proofs.TableTypes.{docs_within, ident_within, string_within, package_name_within, package_path_within, value_type_within, named_type_within, func_type_within, func_type_ref_within}
+use Rattle.wac_parser_grammar.proofs.TableTypes.{docs_within, ident_within, string_within, package_name_within, new_package_within, package_path_within, value_type_within, named_type_within, func_type_within, func_type_ref_within}
 use Rattle.wac_parser_grammar.proofs.TableExprs.{argument_name_within, access_expr_within, named_access_expr_within, postfix_expr_within, expression_within, new_expr_within, nested_expr_within, primary_expr_within, named_argument_within, instantiation_argument_within, expr_within}
 use Rattle.wac_parser_grammar.proofs.TableDecls.{variant_case_within, variant_decl_within, field_within, record_decl_within, flag_within, flags_decl_within, enum_case_within, enum_decl_within, type_alias_kind_within, type_alias_within, constructor_within, method_within, resource_method_within, resource_decl_within, type_decl_within, item_type_decl_within}
 use Rattle.wac_parser_grammar.proofs.TableWorlds.{use_path_within, use_item_within, use_types_within, interface_export_within, interface_item_within, interface_decl_within, inline_interface_within, extern_type_within, named_world_item_within, world_item_path_within, world_import_within, world_export_within, world_ref_within, world_include_item_within, world_include_within, world_item_within, world_decl_within}
@@ -21,6 +21,7 @@ returns c = record {
   ident = same _ _ ident_within;
   string = same _ _ string_within;
   package_name = same _ _ package_name_within;
+  new_package = same _ _ new_package_within;
   package_path = same _ _ package_path_within;
   value_type = same _ _ value_type_within;
   named_type = same _ _ named_type_within;

@@ -4,7 +4,7 @@ use Rattle.wac_parser_grammar.specs.Laws.{IsExact}
 use Rattle.wac_parser_grammar.specs.Expressions.{expr}
 use Rattle.wac_parser_grammar.specs.ValueTypes.{value_type}
 use Rattle.wac_parser_grammar.proofs.Exact.{Exact, token_exact}
-use Rattle.wac_parser_grammar.proofs.NameLaws.{docs_exact, ident_exact, string_exact, package_name_exact, package_path_exact}
+use Rattle.wac_parser_grammar.proofs.NameLaws.{docs_exact, ident_exact, string_exact, package_name_exact, new_package_exact, package_path_exact}
 use Rattle.wac_parser_grammar.proofs.TypeLaws.{payload_exact, value_type_exact, value_type_takes, value_type_begins, named_type_exact, result_list_exact, func_type_exact, func_type_ref_exact}
 use Rattle.wac_parser_grammar.proofs.ExprLaws.{argument_name_exact, access_expr_exact, named_access_expr_exact, expression_exact, instantiation_argument_exact, named_argument_exact, nested_expr_exact, new_expr_exact, primary_expr_exact, expr_exact, expr_takes}
 use Rattle.wac_parser_grammar.proofs.DeclLaws.{variant_case_exact, variant_decl_exact, field_exact, record_decl_exact, flag_exact, flags_decl_exact, enum_case_exact, enum_decl_exact, type_alias_kind_exact, type_alias_exact, constructor_exact, method_exact, resource_method_exact, resource_decl_exact, type_decl_exact, item_type_decl_exact}
@@ -23,6 +23,7 @@ returns c = record {
   ident = same _ ident_exact;
   string = same _ string_exact;
   package_name = same _ package_name_exact;
+  new_package = same _ new_package_exact;
   package_path = same _ package_path_exact;
   value_type = same _ value_type_exact;
   named_type = same _ named_type_exact;

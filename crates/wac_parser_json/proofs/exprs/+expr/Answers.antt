@@ -1,4 +1,4 @@
-use Rattle.std.proofs.Common.{◌≡◌, codes, map, refl, ◌∙◌, rules}
+use Rattle.std.proofs.Common.{◌≡◌, codes, map, option_map, refl, ◌∙◌, rules}
 use Rattle.json.specs.Print.{escape_byte}
 use Rattle.serde_json.specs.Data.{array}
 use Rattle.serde_json.specs.Written.{compact_text}
@@ -47,8 +47,8 @@ nested_expr-returns g t c =
 pub new_expr-returns : goal.new_expr-returns
 unfolding new_expr escape_byte
 new_expr-returns g t c =
-    let e : view_new_expr c.args.made.now ≡ tree.new_expr c.args.made.now.span (view_package_name c.args.made.now.«package») (tree.arguments (map view_instantiation_argument c.args.made.now.arguments.items)) = search (rules, the_lemmas) in
-    of_tree new_expr e (then c.word.ensures (then c.arguments.ensures (then c.word-2.ensures (then c.package_name.ensures (then c.word-3.ensures (then c.span.ensures c.word-4.ensures))))))
+    let e : view_new_expr c.args.made.now ≡ tree.new_expr c.args.made.now.span (view_package_name c.args.made.now.«package») (option_map (λ t. t.now) c.args.made.now.track) (tree.arguments (map view_instantiation_argument c.args.made.now.arguments.items)) = search (rules, the_lemmas) in
+    of_tree new_expr e (then c.word.ensures (then c.arguments.ensures (then c.word-2.ensures (then c.package_name.ensures (then c.word-3.ensures (then c.span.ensures (then c.word-4.ensures (then c.track.ensures c.word-5.ensures))))))))
 
 pub argument-returns-in-Inferred : goal.argument-returns-in-Inferred
 unfolding argument escape_byte

@@ -6,6 +6,7 @@ use Rattle.wac_types_base.specs.Record.{Collection}
 use Rattle.wac_types_base.specs.Collection.{IsAcyclic, Stands}
 use Rattle.wac_types_base.specs.Entries.{Name, names_of}
 use Rattle.wac_types_base.specs.Stated.{Stated, imports_of}
+use Rattle.wac_types_names.specs.Keys.{Key}
 use Rattle.wac_graph_core.specs.declared.ids.PackageId.{PackageId}
 use Rattle.wac_parser_tree.specs.Trees as t
 use Rattle.wac_parser_tree.specs.Trees.{Span}
@@ -26,8 +27,7 @@ use Rattle.wac_parser_resolve.specs.Denoting.{accesses, add_given, denote, finis
 use Rattle.wac_parser_resolve.specs.Holding.{AreGiven, Denotes, IsGiven}
 use Rattle.wac_parser_resolve.specs.InArguments.{SaysGiven, imported_by, inferred_given}
 use Rattle.wac_parser_resolve.specs.InExpressions.{SaysThat}
-use Rattle.wac_parser_resolve.specs.InInstances.{Denoting, HasGiven, IsOn, IsOneGiven, instances_of, named_given, named_key}
-use Rattle.wac_parser_resolve.specs.Knowing.{IsPackage}
+use Rattle.wac_parser_resolve.specs.InInstances.{Denoting, HasGiven, IsOn, IsOneGiven, instances_of, named_given, track_of, HasPackage}
 use Rattle.wac_parser_resolve.proofs.Alike.{Alike, alike_accesses, alike_spreads, outcome_with}
 use Rattle.wac_parser_resolve.proofs.Boards.{imports_later, on_within}
 use Rattle.wac_parser_resolve.proofs.ExprViews.{argument_fill, argument_inferred, argument_named, argument_spread, of_expr, of_named, of_nested, of_new, primary_ident, primary_nested, primary_new}
@@ -277,48 +277,49 @@ named-returns-clause-outcome u c s on =
 pub instance-returns-in_err-id-clause-outcome : goal.instance-returns-in_err-id-clause-outcome
 instance-returns-in_err-id-clause-outcome u c s on =
     let p = view_package_name c.args.new.now.«package» in
+    let track = track_of c.args.new.now in
     let as_ = t.arguments (map view_instantiation_argument c.args.new.now.arguments.items) in
-    let after : Stated → Answer (State × Denoted) = λ w. stated.arguments s (names_of (imports_of w)) [] as_ >>= λ r. each (spread_one (names_of (imports_of w))) r (spreads_of as_) >>= λ q. finished q.0 p w q.1 (is_filled as_) in
+    let after : Key × Stated → Answer (State × Denoted) = λ x. stated.arguments s (names_of (imports_of x.1)) [] as_ >>= λ r. each (spread_one (names_of (imports_of x.1))) r (spreads_of as_) >>= λ q. finished q.0 p x.0 x.1 q.1 (is_filled as_) in
     refused_outcome _ (stated.new_instance s (view_new_expr c.args.new.now)) _ c.in_err-id.field-0.0 c.from_residual.ensures.1
     (subst (λ (x : t.NewExpr). IsRefusal (stated.new_instance s x) c.in_err-id.field-0.0) (sym (of_new c.args.new.now))
-    (then_refused after (new_package s p) c.in_err-id.field-0.0 (c.in_err-id.ensures.outcome s on)))
+    (then_refused after (new_package s p track) c.in_err-id.field-0.0 (c.in_err-id.ensures.outcome s on)))
 
 pub instance-returns-in_err-arguments-clause-outcome : goal.instance-returns-in_err-arguments-clause-outcome
 instance-returns-in_err-arguments-clause-outcome u c s on =
     let p = view_package_name c.args.new.now.«package» in
+    let track = track_of c.args.new.now in
     let as_ = t.arguments (map view_instantiation_argument c.args.new.now.arguments.items) in
     let root = c.args.root in
     let mid = c.new_package.new.board in
     let D = Denoting root c.arguments.new.board in
-    let k = named_key p in
-    let after : List Name → Stated → Answer (State × Denoted) = λ ns w. stated.arguments s ns [] as_ >>= λ r. each (spread_one ns) r (spreads_of as_) >>= λ q. finished q.0 p w q.1 (is_filled as_) in
-    let H : Stated → PackageId → Type 0 = λ w id. IsOn root mid s × IsPackage mid.types.graph k w id in
+    let after : List Name → Key × Stated → Answer (State × Denoted) = λ ns w. stated.arguments s ns [] as_ >>= λ r. each (spread_one ns) r (spreads_of as_) >>= λ q. finished q.0 p w.0 w.1 q.1 (is_filled as_) in
+    let H : Key × Stated → PackageId → Type 0 = λ w id. IsOn root mid s × HasPackage mid.types.graph w id in
     let world = c.world_of-world.result in
     let ks = imported_by mid.types.graph.types world in
     let e = c.in_err-arguments.field-0.0 in
-    let named : (w : Stated) → H w c.in_ok-id.id → ks ≡ names_of (imports_of w) = λ w h.
+    let named : (w : Key × Stated) → H w c.in_ok-id.id → ks ≡ names_of (imports_of w.1) = λ w h.
     ap (λ (x : WorldId). imported_by mid.types.graph.types x) (c.world_of-world.ensures.own h.1.held h.1.there) ∙ ap (λ (x : Stated). names_of (imports_of x)) h.1.world in
     refused_outcome _ (stated.new_instance s (view_new_expr c.args.new.now)) _ e c.from_residual-in_err-arguments.ensures.1
     (subst (λ (x : t.NewExpr). IsRefusal (stated.new_instance s x) e) (sym (of_new c.args.new.now))
-    (after_refused (λ (w : Stated). after (names_of (imports_of w)) w) H (new_package s p) c.in_ok-id.id e (c.in_ok-id.ensures.outcome s on)
+    (after_refused (λ (w : Key × Stated). after (names_of (imports_of w.1)) w) H (new_package s p track) c.in_ok-id.id e (c.in_ok-id.ensures.outcome s on)
     (λ w h. subst (λ (ns : List Name). IsRefusal (after ns w) e) (named w h)
-    (then_refused (λ (r : State × List stated.Given). each (spread_one ks) r (spreads_of as_) >>= λ q. finished q.0 p w q.1 (is_filled as_)) (stated.arguments s ks [] as_) e
+    (then_refused (λ (r : State × List stated.Given). each (spread_one ks) r (spreads_of as_) >>= λ q. finished q.0 p w.0 w.1 q.1 (is_filled as_)) (stated.arguments s ks [] as_) e
     (c.in_err-arguments.ensures.outcome (s, []) (record { on = h.0; given = subst (λ (xs : List Given). AreGiven mid.types.graph (instances_of mid) [] xs) (sym c.new-given.ensures.items) (record { are = tt; apart = tt }) }))))))
 
 pub instance-returns-in_err-spreads-clause-outcome : goal.instance-returns-in_err-spreads-clause-outcome
 instance-returns-in_err-spreads-clause-outcome u c s on =
     let p = view_package_name c.args.new.now.«package» in
+    let track = track_of c.args.new.now in
     let as_ = t.arguments (map view_instantiation_argument c.args.new.now.arguments.items) in
     let root = c.args.root in
     let mid = c.new_package.new.board in
     let b = c.arguments.new.board in
     let g = c.spreads.new.graph in
-    let k = named_key p in
-    let after : List Name → Stated → Answer (State × Denoted) = λ ns w. stated.arguments s ns [] as_ >>= λ r. each (spread_one ns) r (spreads_of as_) >>= λ q. finished q.0 p w q.1 (is_filled as_) in
-    let H : Stated → PackageId → Type 0 = λ w id. IsOn root mid s × IsPackage mid.types.graph k w id in
+    let after : List Name → Key × Stated → Answer (State × Denoted) = λ ns w. stated.arguments s ns [] as_ >>= λ r. each (spread_one ns) r (spreads_of as_) >>= λ q. finished q.0 p w.0 w.1 q.1 (is_filled as_) in
+    let H : Key × Stated → PackageId → Type 0 = λ w id. IsOn root mid s × HasPackage mid.types.graph w id in
     let world = c.world_of-world.result in
     let ks = imported_by mid.types.graph.types world in
-    let named : (w : Stated) → H w c.in_ok-id.id → ks ≡ names_of (imports_of w) = λ w h.
+    let named : (w : Key × Stated) → H w c.in_ok-id.id → ks ≡ names_of (imports_of w.1) = λ w h.
     ap (λ (x : WorldId). imported_by mid.types.graph.types x) (c.world_of-world.ensures.own h.1.held h.1.there) ∙ ap (λ (x : Stated). names_of (imports_of x)) h.1.world in
     let noted = b.instances.noted.items in
     let names = root.nodes.now in
@@ -327,27 +328,27 @@ instance-returns-in_err-spreads-clause-outcome u c s on =
     let e = c.in_err-spreads.field-0.0 in
     refused_outcome _ (stated.new_instance s (view_new_expr c.args.new.now)) _ e c.from_residual-in_err-spreads.ensures.1
     (subst (λ (x : t.NewExpr). IsRefusal (stated.new_instance s x) e) (sym (of_new c.args.new.now))
-    (after_refused (λ (w : Stated). after (names_of (imports_of w)) w) H (new_package s p) c.in_ok-id.id e (c.in_ok-id.ensures.outcome s on)
+    (after_refused (λ (w : Key × Stated). after (names_of (imports_of w.1)) w) H (new_package s p track) c.in_ok-id.id e (c.in_ok-id.ensures.outcome s on)
     (λ w h. subst (λ (ns : List Name). IsRefusal (after ns w) e) (named w h)
-    (after_refused (λ (r : State × List stated.Given). each (spread_one ks) r (spreads_of as_) >>= λ q. finished q.0 p w q.1 (is_filled as_)) G (stated.arguments s ks [] as_) (tt {0}) e
+    (after_refused (λ (r : State × List stated.Given). each (spread_one ks) r (spreads_of as_) >>= λ q. finished q.0 p w.0 w.1 q.1 (is_filled as_)) G (stated.arguments s ks [] as_) (tt {0}) e
     (c.in_ok-arguments.ensures.outcome (s, []) (record { on = h.0; given = subst (λ (xs : List Given). AreGiven mid.types.graph (instances_of mid) [] xs) (sym c.new-given.ensures.items) (record { are = tt; apart = tt }) }))
-    (λ q given. then_refused (λ (r : State × List stated.Given). finished r.0 p w r.1 (is_filled as_)) (each (spread_one ks) q (spreads_of as_)) e
+    (λ q given. then_refused (λ (r : State × List stated.Given). finished r.0 p w.0 w.1 r.1 (is_filled as_)) (each (spread_one ks) q (spreads_of as_)) e
     (subst (λ (ns : List Name). IsRefusal (each (spread_one ns) q (spreads_of as_)) e) same (c.in_err-spreads.ensures.outcome noted q (given.on.says, given.given))))))))
 
 pub instance-returns-clause-outcome : goal.instance-returns-clause-outcome
 instance-returns-clause-outcome u c s on =
     let p = view_package_name c.args.new.now.«package» in
+    let track = track_of c.args.new.now in
     let as_ = t.arguments (map view_instantiation_argument c.args.new.now.arguments.items) in
     let root = c.args.root in
     let mid = c.new_package.new.board in
     let b = c.arguments.new.board in
     let g = c.spreads.new.graph in
-    let k = named_key p in
-    let after : List Name → Stated → Answer (State × Denoted) = λ ns w. stated.arguments s ns [] as_ >>= λ r. each (spread_one ns) r (spreads_of as_) >>= λ q. finished q.0 p w q.1 (is_filled as_) in
-    let H : Stated → PackageId → Type 0 = λ w id. IsOn root mid s × IsPackage mid.types.graph k w id in
+    let after : List Name → Key × Stated → Answer (State × Denoted) = λ ns w. stated.arguments s ns [] as_ >>= λ r. each (spread_one ns) r (spreads_of as_) >>= λ q. finished q.0 p w.0 w.1 q.1 (is_filled as_) in
+    let H : Key × Stated → PackageId → Type 0 = λ w id. IsOn root mid s × HasPackage mid.types.graph w id in
     let world = c.world_of-world.result in
     let ks = imported_by mid.types.graph.types world in
-    let named : (w : Stated) → H w c.in_ok-id.id → ks ≡ names_of (imports_of w) = λ w h.
+    let named : (w : Key × Stated) → H w c.in_ok-id.id → ks ≡ names_of (imports_of w.1) = λ w h.
     ap (λ (x : WorldId). imported_by mid.types.graph.types x) (c.world_of-world.ensures.own h.1.held h.1.there) ∙ ap (λ (x : Stated). names_of (imports_of x)) h.1.world in
     let noted = b.instances.noted.items in
     let names = root.nodes.now in
@@ -359,15 +360,15 @@ instance-returns-clause-outcome u c s on =
     let S : State × List stated.Given → ⊤ → Type 0 = λ x u. SaysGiven g noted names c.spreads.new.given.items x in
     let later = (Inner-trans mid.types.graph b.types.graph g c.in_ok-arguments.ensures.inner c.in_ok-spreads.ensures.inner).later in
     subst (λ (x : t.NewExpr). IsOutcome D (stated.new_instance s x) r) (sym (of_new c.args.new.now))
-    (after_outcome (λ (w : Stated). after (names_of (imports_of w)) w) H D (new_package s p) c.in_ok-id.id r (c.in_ok-id.ensures.outcome s on)
+    (after_outcome (λ (w : Key × Stated). after (names_of (imports_of w.1)) w) H D (new_package s p track) c.in_ok-id.id r (c.in_ok-id.ensures.outcome s on)
     (λ w h. subst (λ (ns : List Name). IsOutcome D (after ns w) r) (named w h)
-    (after_outcome (λ (q : State × List stated.Given). each (spread_one ks) q (spreads_of as_) >>= λ x. finished x.0 p w x.1 (is_filled as_)) G D (stated.arguments s ks [] as_) (tt {0}) r
+    (after_outcome (λ (q : State × List stated.Given). each (spread_one ks) q (spreads_of as_) >>= λ x. finished x.0 p w.0 w.1 x.1 (is_filled as_)) G D (stated.arguments s ks [] as_) (tt {0}) r
     (c.in_ok-arguments.ensures.outcome (s, []) (record { on = h.0; given = subst (λ (xs : List Given). AreGiven mid.types.graph (instances_of mid) [] xs) (sym c.new-given.ensures.items) (record { are = tt; apart = tt }) }))
-    (λ q given. after_outcome (λ (x : State × List stated.Given). finished x.0 p w x.1 (is_filled as_)) (λ (x : State × List stated.Given) (u : ⊤). S x u × Alike q.0 x.0) D (each (spread_one ks) q (spreads_of as_)) (tt {0}) r
+    (λ q given. after_outcome (λ (x : State × List stated.Given). finished x.0 p w.0 w.1 x.1 (is_filled as_)) (λ (x : State × List stated.Given) (u : ⊤). S x u × Alike q.0 x.0) D (each (spread_one ks) q (spreads_of as_)) (tt {0}) r
     (outcome_with S (λ (x : State × List stated.Given) (u : ⊤). S x u × Alike q.0 x.0) (each (spread_one ks) q (spreads_of as_)) (Ok (tt {0})) (λ x u is y. (y, alike_spreads ks (spreads_of as_) q x is))
     (subst (λ (ns : List Name). IsHeld S (each (spread_one ns) q (spreads_of as_)) (tt {0})) same (c.in_ok-spreads.ensures.outcome noted q (given.on.says, given.given))))
-    (λ x y. c.finish.ensures.outcome root x.0 w x.1 (on_within root b new c.in_ok-spreads.ensures.within refl q.0 x.0 given.on y.1 y.0.0)
-    (package_stays mid.types.graph g later k w c.in_ok-id.id h.1 (subst (λ (i : WorldId). Stands mid.types.graph.types (ItemKind.Component i)) (c.world_of-world.ensures.own h.1.held h.1.there) c.world_of-world.ensures.stands))
+    (λ x y. c.finish.ensures.outcome root x.0 w.0 w.1 x.1 (on_within root b new c.in_ok-spreads.ensures.within refl q.0 x.0 given.on y.1 y.0.0)
+    (package_stays mid.types.graph g later w.0 w.1 c.in_ok-id.id h.1 (subst (λ (i : WorldId). Stands mid.types.graph.types (ItemKind.Component i)) (c.world_of-world.ensures.own h.1.held h.1.there) c.world_of-world.ensures.stands))
     y.0.1)))))
 
 pub instance-returns-clause-more : goal.instance-returns-clause-more

@@ -14,7 +14,7 @@ use Rattle.wac_parser_resolve.specs.Ascribing.{Made}
 use Rattle.wac_parser_resolve.specs.Denoting as stated
 use Rattle.wac_parser_resolve.specs.Denoting.{argument_fits, finished, with_made}
 use Rattle.wac_parser_resolve.specs.InArguments.{imported_by}
-use Rattle.wac_parser_resolve.specs.InInstances.{Denoting, SaysMade, just_made, with_arguments, named_key}
+use Rattle.wac_parser_resolve.specs.InInstances.{Denoting, SaysMade, just_made, with_arguments}
 use Rattle.wac_parser_resolve.proofs.Accesses.{held_any}
 use Rattle.wac_parser_resolve.proofs.Boards.{finished_held, first_refused, made_on_board, second_refused}
 use Rattle.wac_parser_resolve.proofs.Giving.{same_names}
@@ -26,26 +26,24 @@ use Rattle.wac_parser_resolve.proofs.Staying.{given_stay}
 use Rattle.wac_parser_resolve.proofs.expressions.finish.Goals as goal
 
 pub returns-in_err-pass_all-clause-outcome : goal.returns-in_err-pass_all-clause-outcome
-returns-in_err-pass_all-clause-outcome c root s w gs on held given =
+returns-in_err-pass_all-clause-outcome c root s k w gs on held given =
     let g = c.args.board.now.types.graph in
     let h = c.instantiate.new.graph in
     let p = view_package_name c.args.new.now.«package» in
-    let k = named_key p in
     let i = c.in_ok-instance.instance in
     let noted = c.args.board.now.instances.noted.items in
     let names = root.nodes.now in
     let made = c.in_ok-instance.ensures.made noted names s k w p.span on.says held in
     let all = given_stay g h c.in_ok-instance.ensures.inner.later (names_of noted) (names_of (noted ++ (i, p.span) ∷ [])) (more_one noted (i, p.span)) gs c.args.given.items given in
-    refused_outcome _ (finished s p w gs _) c.from_residual-in_err-pass_all.result c.in_err-pass_all.field-0.0 c.from_residual-in_err-pass_all.ensures.1
+    refused_outcome _ (finished s p k w gs _) c.from_residual-in_err-pass_all.result c.in_err-pass_all.field-0.0 c.from_residual-in_err-pass_all.ensures.1
     (first_refused (each (argument_fits k w) (tt {0}) gs) _ c.in_err-pass_all.field-0.0 (c.in_err-pass_all.ensures.outcome noted names s k w p.span gs made.0 all))
 
 -- the names of the world's imports, in the collection as it is then
 pub returns-in_err-complete_or_filled-clause-outcome : goal.returns-in_err-complete_or_filled-clause-outcome
-returns-in_err-complete_or_filled-clause-outcome c root s w gs on held given =
+returns-in_err-complete_or_filled-clause-outcome c root s k w gs on held given =
     let g = c.args.board.now.types.graph in
     let h = c.instantiate.new.graph in
     let p = view_package_name c.args.new.now.«package» in
-    let k = named_key p in
     let i = c.in_ok-instance.instance in
     let noted = c.args.board.now.instances.noted.items in
     let names = root.nodes.now in
@@ -58,18 +56,17 @@ returns-in_err-complete_or_filled-clause-outcome c root s w gs on held given =
     let ns : imported_by c.types.result.now world ≡ names_of (imports_of w) =
     ap (λ (x : Collection). imported_by x world) (c.types.ensures ∙ within.types) ∙ ap (λ (x : WorldId). imported_by g.types x) (c.world_of-world.ensures.own held.held held.there) ∙ ap (λ (t : Stated). names_of (imports_of t)) held.world in
     let same = same_names h (names_of (noted ++ (i, p.span) ∷ [])) gs c.args.given.items all.are in
-    refused_outcome _ (finished s p w gs _) c.from_residual-in_err-complete_or_filled.result c.in_err-complete_or_filled.field-0.0 c.from_residual-in_err-complete_or_filled.ensures.1
+    refused_outcome _ (finished s p k w gs _) c.from_residual-in_err-complete_or_filled.result c.in_err-complete_or_filled.field-0.0 c.from_residual-in_err-complete_or_filled.ensures.1
     (second_refused (each (argument_fits k w) (tt {0}) gs) _ _ c.in_err-complete_or_filled.field-0.0
     (answered (each (argument_fits k w) (tt {0}) gs) (λ (v : ⊤). SaysMade j noted i names s (with_arguments (just_made k w p.span) gs)) (tt {0}) passed)
     (subst (λ (xs : List Name). IsRefusal (stated.complete (stated.is_filled (t.arguments (map view_instantiation_argument c.args.new.now.arguments.items))) p gs xs) c.in_err-complete_or_filled.field-0.0) ns
     (c.in_err-complete_or_filled.ensures gs same)))
 
 pub returns-clause-outcome : goal.returns-clause-outcome
-returns-clause-outcome c root s w gs on held given =
+returns-clause-outcome c root s k w gs on held given =
     let g = c.args.board.now.types.graph in
     let h = c.instantiate.new.graph in
     let p = view_package_name c.args.new.now.«package» in
-    let k = named_key p in
     let i = c.in_ok-instance.instance in
     let noted = c.args.board.now.instances.noted.items in
     let names = root.nodes.now in

@@ -1,6 +1,7 @@
 use Rattle.std.proofs.Common.{sym}
 use Rattle.wac_parser_refusals.proofs.Outcomes.{refused_outcome}
 use Rattle.wac_parser_declare.specs.Holding.{IsType}
+use Rattle.wac_parser_resolve.specs.Knowing.{handed_keys}
 use Rattle.wac_parser_resolve.proofs.Boards.{world_known}
 use Rattle.wac_parser_resolve.proofs.Definable.{newly_definable}
 use Rattle.wac_parser_resolve.proofs.Knowing.{nodes_back}
@@ -28,4 +29,4 @@ pub returns-clause-definable : goal.returns-clause-definable
 returns-clause-definable c =
     let g = c.args.state.now.board.types.graph in
     let h = c.type_statement.new.types.graph in
-    newly_definable g h c.in_ok-ty.ty c.see_sound.ensures (nodes_back g h c.type_statement.ensures.packages.rest) c.in_ok-ty.ensures.fresh
+    newly_definable g h c.in_ok-ty.ty c.see_sound.ensures (nodes_back g h (handed_keys c.args.state.now.board.types) (handed_keys c.type_statement.new.types) c.type_statement.ensures.packages.rest) c.in_ok-ty.ensures.fresh

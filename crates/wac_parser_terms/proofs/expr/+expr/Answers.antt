@@ -72,32 +72,32 @@ nested_expr-returns-clause-goes_on t c =
     (behind_trans _ _ _ c.expr_within.ensures.goes_on c.parse_token.ensures.goes_on)
 
 pub new_expr-returns-in_err-package-clause-goes_on : goal.new_expr-returns-in_err-package-clause-goes_on
-new_expr-returns-in_err-package-clause-goes_on t c = behind_trans _ _ _ c.package_name.ensures.goes_on c.parse_token.ensures.goes_on
+new_expr-returns-in_err-package-clause-goes_on t c = behind_trans _ _ _ c.new_package.ensures.goes_on c.parse_token.ensures.goes_on
 
 pub new_expr-returns-in_err-parse_token-clause-goes_on : goal.new_expr-returns-in_err-parse_token-clause-goes_on
 new_expr-returns-in_err-parse_token-clause-goes_on t c =
     behind_trans _ _ _ c.parse_token-2.ensures.goes_on
-    (behind_trans _ _ _ c.package_name.ensures.goes_on c.parse_token.ensures.goes_on)
+    (behind_trans _ _ _ c.new_package.ensures.goes_on c.parse_token.ensures.goes_on)
 
 pub new_expr-returns-in_err-arguments-clause-goes_on : goal.new_expr-returns-in_err-arguments-clause-goes_on
 new_expr-returns-in_err-arguments-clause-goes_on t c =
     behind_trans _ _ _ c.arguments.ensures.goes_on
     (behind_trans _ _ _ c.parse_token-2.ensures.goes_on
-    (behind_trans _ _ _ c.package_name.ensures.goes_on c.parse_token.ensures.goes_on))
+    (behind_trans _ _ _ c.new_package.ensures.goes_on c.parse_token.ensures.goes_on))
 
 pub new_expr-returns-in_err-close-clause-goes_on : goal.new_expr-returns-in_err-close-clause-goes_on
 new_expr-returns-in_err-close-clause-goes_on t c =
     behind_trans _ _ _ c.parse_token-3.ensures.goes_on
     (behind_trans _ _ _ c.arguments.ensures.goes_on
     (behind_trans _ _ _ c.parse_token-2.ensures.goes_on
-    (behind_trans _ _ _ c.package_name.ensures.goes_on c.parse_token.ensures.goes_on)))
+    (behind_trans _ _ _ c.new_package.ensures.goes_on c.parse_token.ensures.goes_on)))
 
 pub new_expr-returns-clause-goes_on : goal.new_expr-returns-clause-goes_on
 new_expr-returns-clause-goes_on t c =
     behind_trans _ _ _ c.parse_token-3.ensures.goes_on
     (behind_trans _ _ _ c.arguments.ensures.goes_on
     (behind_trans _ _ _ c.parse_token-2.ensures.goes_on
-    (behind_trans _ _ _ c.package_name.ensures.goes_on c.parse_token.ensures.goes_on)))
+    (behind_trans _ _ _ c.new_package.ensures.goes_on c.parse_token.ensures.goes_on)))
 
 pub argument_value-returns-in_err-expr-clause-goes_on : goal.argument_value-returns-in_err-expr-clause-goes_on
 argument_value-returns-in_err-expr-clause-goes_on t c = behind_trans _ _ _ c.expr_within.ensures.goes_on c.parse_token.ensures.goes_on

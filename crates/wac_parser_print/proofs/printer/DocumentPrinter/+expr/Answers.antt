@@ -1,4 +1,4 @@
-use Rattle.std.proofs.Common.{◌≡◌, ◌<◌, map, length, ap, sym, ◌∙◌, arith, rules}
+use Rattle.std.proofs.Common.{◌≡◌, ◌<◌, map, option_map, length, ap, sym, ◌∙◌, arith, rules}
 use Rattle.std.proofs.lemmas.Bool.Decides.{nat_tests}
 use Rattle.std.proofs.lemmas.List.{length-map}
 use Rattle.wac_parser_tree.specs.declared.expr.InstantiationArgument.{the_lemmas}
@@ -39,7 +39,7 @@ add_primary_expr-returns-in-Ident g t c =
 pub add_new_expr-returns : goal.add_new_expr-returns
 unfolding new_expr
 add_new_expr-returns g t c =
-    let e : view_new_expr c.args.expr.now ≡ tree.new_expr c.args.expr.now.span (view_package_name c.args.expr.now.«package») (tree.arguments (map view_instantiation_argument c.args.expr.now.arguments.items)) = search (rules, the_lemmas) in
+    let e : view_new_expr c.args.expr.now ≡ tree.new_expr c.args.expr.now.span (view_package_name c.args.expr.now.«package») (option_map (λ t. t.now) c.args.expr.now.track) (tree.arguments (map view_instantiation_argument c.args.expr.now.arguments.items)) = search (rules, the_lemmas) in
     of_view (new_expr c.args.level) e (and_then c.word.ensures (and_then c.slice.ensures (and_then c.word-2.ensures (and_then c.add_arguments.ensures c.word-3.ensures))))
 
 pub add_arguments-returns-then-is_empty : goal.add_arguments-returns-then-is_empty

@@ -1,4 +1,4 @@
-use Rattle.std.proofs.Common.{◌≡◌, map, arith, rules}
+use Rattle.std.proofs.Common.{◌≡◌, map, option_map, arith, rules}
 use Rattle.std.proofs.lemmas.Grind.{common_steps}
 use Rattle.wac_parser_tree.specs.declared.expr.InstantiationArgument.{the_lemmas}
 use Rattle.wac_parser_tree.specs.Trees as tree
@@ -16,8 +16,8 @@ expr-returns t c =
 pub new_expr-returns : goal.new_expr-returns
 unfolding new_expr
 new_expr-returns t c =
-    let e : view_new_expr c.args.made.now ≡ tree.new_expr c.args.made.now.span (view_package_name c.args.made.now.«package») (tree.arguments (map view_instantiation_argument c.args.made.now.arguments.items)) = search (rules, the_lemmas) in
-    rw e (c.into_value.ensures _ (c.with-3.ensures _ _ (c.with-2.ensures _ _ (c.with.ensures _ _ c.new.ensures c.span-at.ensures) c.package_name-package.ensures) c.arguments-arguments.ensures))
+    let e : view_new_expr c.args.made.now ≡ tree.new_expr c.args.made.now.span (view_package_name c.args.made.now.«package») (option_map (λ t. t.now) c.args.made.now.track) (tree.arguments (map view_instantiation_argument c.args.made.now.arguments.items)) = search (rules, the_lemmas) in
+    rw e (c.into_value.ensures _ (c.with-4.ensures _ _ (c.with-3.ensures _ _ (c.with-2.ensures _ _ (c.with.ensures _ _ c.new.ensures c.span-at.ensures) c.package_name-package.ensures) c.track-track.ensures) c.arguments-arguments.ensures))
 
 pub named_argument-returns : goal.named_argument-returns
 unfolding named_argument

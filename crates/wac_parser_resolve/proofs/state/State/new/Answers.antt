@@ -1,3 +1,4 @@
+use Rattle.std.proofs.Common.{refl}
 use Rattle.wac_types_base.specs.Collection.{empty}
 use Rattle.wac_parser_resolve.specs.declared.state.State.{State as Held}
 use Rattle.wac_parser_resolve.specs.Knowing.{handed_list}
@@ -16,4 +17,4 @@ returns-clause-starts c d =
       ids = c.new-7.result;
     } in
     starts_bare b (empty c.args.number) d (handed_list c.args.«packages».now) c.new.ensures c.new-2.ensures.noted c.new-3.ensures c.new-4.ensures c.new-5.ensures.noted c.new-6.ensures.noted
-    (λ k. handed_same k _ key_tests c.args.«packages».now.entries c.len.ensures.unique)
+    (λ k. handed_same k _ key_tests c.args.«packages».now.entries c.len.ensures.unique) refl
