@@ -22,11 +22,14 @@ module _ (w : Worlds) (c : Collection) (outer : List Scope) (world : WorldId) (i
       → ((id : InterfaceId) → IsOfInterface k id → IfErr r (λ e. e ≡ WriteError.Unwritable → InstanceRefused c between.used 0 id))
       → IfErr r (λ e. e ≡ WriteError.Unwritable → A ⊎ IsRefusedThen w c outer world imported exported k new)
   refused_then (Ok x) goes h g = tt
-  refused_then (Err e) goes h g = λ un. inr (between, record {
-    goes = goes;
-    item = subst (RefusedItem c k between.scope new.scope) un h;
-    instance = λ id of. g id of un;
-  })
+  refused_then (Err e) goes h g = λ un. inr (
+    between,
+    record {
+      goes = goes;
+      item = subst (RefusedItem c k between.scope new.scope) un h;
+      instance = λ id of. g id of un;
+    },
+  )
 
   pub exporting_refused : {T : Type 0} (r : Result T WriteError) → WritesWorld w c outer world between imported exported
       → IfErr r (λ e. e ≡ WriteError.Unwritable → RefusedItem c k between.scope new.scope WriteError.Unwritable)

@@ -97,11 +97,7 @@ fn accesses(
 }
 
 /// The package that an instantiation names: never the document's own.
-fn new_package(
-    new: &NewExpr<'_>,
-    root: Root<'_, '_>,
-    board: &mut Board<'_>,
-) -> Outcome<PackageId>
+fn new_package(new: &NewExpr<'_>, root: Root<'_, '_>, board: &mut Board<'_>) -> Outcome<PackageId>
     ensures id { IfOk result (λ id. ContainsPackage board.new.types.graph id) }
     ensures own { OnOk result (new.now.«package».name.now ≢ root.entry.own.now) }
     ensures inner { Inner board.old.types.graph board.new.types.graph }

@@ -51,10 +51,7 @@ fn later(best: Option<Version>, found: Option<Version>) -> Option<Version>
 }
 
 /// The version of a key, if it has one.
-fn own_version(
-    alloc: Global,
-    key: BorrowedPackageKey<'_>,
-) -> Result<Option<Version>, AllocError>
+fn own_version(alloc: Global, key: BorrowedPackageKey<'_>) -> Result<Option<Version>, AllocError>
     ensures { IfOk result (λ o. option_map parts_of o ≡ (borrowed_key key.entry).1) }
 {
     let key = key.into_owned(alloc)?;
@@ -94,10 +91,7 @@ fn version_handed(
 ) -> Result<Option<Version>, AllocError>
     ensures { IfOk result (λ o. option_map parts_of o ≡ handed_version track.now key.entry handed.entry) }
 {
-    if handed
-        .types
-        .has(ItemKind::Component(handed.package.ty()))
-    {
+    if handed.types.has(ItemKind::Component(handed.package.ty())) {
         version_on(alloc, key, track)
     } else {
         Ok(None)

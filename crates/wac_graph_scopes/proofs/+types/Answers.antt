@@ -292,7 +292,7 @@ imports::ImportScope::describe_import-returns-in-None-clause-refused m c stands 
     let k = c.args.import.kind in
     let between = c.describe_plainly.new.self in
     let goes = (subst (MayDescribeIn w types outer world h.writing.inside c.args.import.name.now k between imported exported) c.in-None.is
-        (c.in_ok-plainly.ensures.describes w outer h.writing.inside imported exported (written w types outer world imported exported c.args.self.now h))).goes in
+    (c.in_ok-plainly.ensures.describes w outer h.writing.inside imported exported (written w types outer world imported exported c.args.self.now h))).goes in
     refused_then w types outer world imported exported k between c.describe.new.self (UsesUnnamed c.args.all c.args.import) c.describe.result goes (c.describe.ensures.refused stands)
     (λ id of. c.describe.ensures.instance stands id of w outer goes.writing.inside goes.writing.stands goes.used)
 
