@@ -25,7 +25,7 @@ use Rattle.wac_texts.specs.declared.declared.Declares.{Declares}
 use Rattle.wac_texts.specs.Declarations.{declared_in}
 use Rattle.wac_texts.specs.Files.{Stored}
 use Rattle.wac_workspace.specs.declared.entries.Entry.{Entry}
-use Rattle.wac_workspace.specs.declared.errors.AddPackageError.{AddPackageError}
+use Rattle.wac_workspace.specs.declared.error.AddPackageError.{AddPackageError}
 use Rattle.wac_workspace.specs.declared.output.Output.{Output}
 use Rattle.wac_workspace.specs.Composing.{ComposesSource, IsDocument, greatest}
 use Rattle.wac_workspace.specs.Packages.{Held, HasBytes, HasKey}

@@ -27,7 +27,7 @@ use Rattle.wac_parser_resolve.specs.InDocuments.{IsErrorOf}
 use Rattle.wac_parser_resolve.specs.Meeting.{resolved}
 use Rattle.wac_parser_tree.specs.Trees.{Document}
 use Rattle.wac_workspace.specs.declared.entries.Entry.{Entry}
-use Rattle.wac_workspace.specs.declared.errors.ComposeError.{ComposeError}
+use Rattle.wac_workspace.specs.declared.error.ComposeError.{ComposeError}
 use Rattle.wac_workspace.specs.declared.output.Output.{Output}
 use Rattle.wac_workspace.specs.Composing.{ComposesSource, IsDocument, IsRefused, greatest}
 use Rattle.wac_workspace.specs.Getting.{Gets}

@@ -11,8 +11,8 @@ use Rattle.wac_parser_grammar.specs.declared.error.Error.TheVariants as e
 use Rattle.wac_parser_refusals.specs.declared.error.Error.TheVariants as resolving
 use Rattle.wac_parser_refusals.specs.Causes.{span_of}
 use Rattle.wac_parser_refusals.specs.Views.{cause_of}
-use Rattle.wac_workspace.specs.declared.errors.ComposeError.{ComposeError}
-use Rattle.wac_workspace.specs.declared.errors.ComposeError.TheVariants as composing
+use Rattle.wac_workspace.specs.declared.error.ComposeError.{ComposeError}
+use Rattle.wac_workspace.specs.declared.error.ComposeError.TheVariants as composing
 use Rattle.wac.specs.declared.stop.Stop.{Stop}
 
 -- where a fault of parsing stands

@@ -7,7 +7,7 @@ ghost use Rattle.wac.specs.Adding.{IsBytesOf, AddsComponent, AddsComponents, Add
 ghost use Rattle.wac.specs.Loading.{HasNoFileText, IsUnread, IsNoText, IsTextOf, IsTextRefused, StopsFor};
 ghost use Rattle.wac.specs.Refusing.{GivesNone, HasNoBytesOf, IsNotAdded, IsTaken, ReadsNone, StopsAdding};
 ghost use Rattle.wac_texts.specs.declared.declared.DeclaredWorldError.{DeclaredWorldError as Lack};
-ghost use Rattle.wac_workspace.specs.declared.errors.AddPackageError.{AddPackageError as Taken};
+ghost use Rattle.wac_workspace.specs.declared.error.AddPackageError.{AddPackageError as Taken};
 
 use crate::stop::{Stop, cannot_read, key_taken, not_parsed, not_resolved, plain, with_text};
 use std::alloc::Global;

@@ -5,7 +5,7 @@ ghost use Rattle.std.specs.Fmt.{decimal};
 ghost use Rattle.std.specs.Io.KnownBytes.{Appends};
 ghost use Rattle.wac_streams.specs.Calls.{AppendsPrefix, CallsAtMost, FailedOnce};
 ghost use Rattle.wac_types_base.specs.Entries.{Name};
-ghost use Rattle.wac_workspace.specs.declared.errors.StreamError.{StreamError as Unread};
+ghost use Rattle.wac_workspace.specs.declared.error.StreamError.{StreamError as Unread};
 ghost use Rattle.wac_workspace.specs.Reading.{HasTooMany, ToEnd};
 ghost use Rattle.wac.specs.Loading.{StopsFor};
 ghost use Rattle.wac.specs.Refusing.{HasNoInputText, HasNoTextAt, IsRefusedRun, StopsAt};

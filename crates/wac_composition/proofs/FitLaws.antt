@@ -1,6 +1,6 @@
 -- Where the test says that one tree fits another, it does.
 use Rattle.std.proofs.Common.{◌≡◌, Bool, true, false, List, [], ◌∷◌, Some, refl, sym, subst, inl, inr}
-use Rattle.std.proofs.lemmas.Bool.{and_parts}
+use Rattle.std.proofs.lemmas.Bool.{and_parts, or_cases}
 use Rattle.std.specs.Prelude.{◌==◌, ◌⊎◌, bytes_eq, if◌then◌else◌}
 use Rattle.std.specs.List.{list_any}
 use Rattle.std.specs.Cmp.Lexicographic.{pointwise}
@@ -11,7 +11,6 @@ use Rattle.wac_types_base.specs.Tree.{Tree, rigid, instance, component, core_mod
 use Rattle.wac_types_base.specs.Fits.{HasField, at_first, at_later, Covers, Fits, rigid_fits, own_fits, borrow_fits, instance_fits, component_fits, module_fits, type_fits, FieldsFit, none_asked, one_asked}
 use Rattle.wac_composition.specs.Tests.{same_core_import, same_core_export, field_is, passes, gives_all, covers, fit, tests, are_given}
 use Rattle.wac_composition.proofs.TestLaws.{Tells, trees_tell, imports_tell, exports_tell}
-use Rattle.wac_names.proofs.NameKinds.{or_parts}
 
 abbrev Along : Bool → Tree → Tree → Type 0
 Along true t u = Fits t u
@@ -28,7 +27,7 @@ EachTold (field n t xs) = Told t × EachTold xs
 
 any_among : {A : Type 0} (p : A → A → Bool) → Tells p → (y : A) (xs : List A) → list_any (p y) xs ≡ true → Among y xs
 any_among p t y [] e = absurd (cc e)
-any_among p t y (x ∷ xs) e = by (or_parts (p y x) (list_any (p y) xs) e) (any_among p t y xs)
+any_among p t y (x ∷ xs) e = by (or_cases (p y x) (list_any (p y) xs) e) (any_among p t y xs)
   where
     by : (p y x ≡ true) ⊎ (list_any (p y) xs ≡ true) → (list_any (p y) xs ≡ true → Among y xs) → Among y (x ∷ xs)
     by (inl h) rest = inl (t.only y x h)

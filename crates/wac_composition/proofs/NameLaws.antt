@@ -1,6 +1,6 @@
 -- The tests of names say yes of compatible ones alone, and of later ones alone.
 use Rattle.std.proofs.Common.{◌≡◌, ℕ, Bool, true, false, List, ◌∷◌, ◌++◌, length, Option, Some, None, refl, sym, ap, ◌∙◌, inl, inr}
-use Rattle.std.proofs.lemmas.Bool.{and_parts}
+use Rattle.std.proofs.lemmas.Bool.{and_parts, or_cases}
 use Rattle.std.specs.Prelude.{◌==◌, ◌⊎◌, bytes_eq, nat_lt, option_map, if◌then◌else◌}
 use Rattle.std.specs.Fmt.{decimal}
 use Rattle.std.specs.declared.cmp.Ordering.{Ordering}
@@ -12,7 +12,6 @@ use Rattle.wac_types_names.specs.Tracks.{before_at, version_of, track_text, key_
 use Rattle.wac_types_names.specs.Versions.{version_cmp}
 use Rattle.wac_composition.specs.Names.{track_number, numbers_agree, tracks_agree, same_track, compatible, later_version, is_later}
 use Rattle.wac_composition.proofs.AskedAgain.{greater_is}
-use Rattle.wac_names.proofs.NameKinds.{or_parts}
 
 -- the text of a track's number
 abbrev number_text : ℕ × ℕ → List ℕ
@@ -75,7 +74,7 @@ shared m n a f = (
 )
 
 pub compatible_is : (m n : Name) → compatible m n ≡ true → AreCompatible m n
-compatible_is m n e = by (or_parts (bytes_eq m n) (same_track m n) e)
+compatible_is m n e = by (or_cases (bytes_eq m n) (same_track m n) e)
   where
     by : (bytes_eq m n ≡ true) ⊎ (same_track m n ≡ true) → AreCompatible m n
     by (inl h) = inl ((bytes_eq-Decides m n).0 h)

@@ -8,7 +8,7 @@ use Rattle.std.specs.Fmt.{decimal}
 use Rattle.std.proofs.lemmas.Fmt.{decimal_injective}
 use Rattle.std.proofs.lemmas.Slice.Eq.{bytes_eq-Decides}
 use Rattle.std.proofs.lemmas.Bool.Decides.{Decides-eqb}
-use Rattle.std.proofs.lemmas.Bool.{or_right}
+use Rattle.std.proofs.lemmas.Bool.{or_right, or_left}
 use Rattle.semver.specs.Parse.{Parts}
 use Rattle.semver.specs.Grammar.{IsValid}
 use Rattle.wac_types_base.specs.Entries.{Name}
@@ -16,7 +16,6 @@ use Rattle.wac_types_names.specs.Tracks.{is_at, read_version, before_at, version
 use Rattle.wac_types_names.proofs.Places.{NoByte}
 use Rattle.wac_types_names.proofs.TrackTexts.{read-text, decimal_no_dot, one_longer}
 use Rattle.wac_composition.specs.Names.{track_number, numbers_agree, tracks_agree, same_track, compatible, is_greater, later_version, is_later}
-use Rattle.wac_names.proofs.NameKinds.{or_left}
 
 head_is : {x y : ℕ} {xs ys : List ℕ} → x ∷ xs ≡ y ∷ ys → x ≡ y
 head_is e = cc

@@ -1,6 +1,6 @@
 -- The outer import of an ask: under the spelling of its class there is one, and it fits the ask.
 use Rattle.std.specs.Prelude.{◌==◌, option_map, unwrap_or, is_some, find, cond, bytes_eq, if◌then◌else◌}
-use Rattle.std.proofs.lemmas.Bool.{and_parts, or_right}
+use Rattle.std.proofs.lemmas.Bool.{and_parts, or_right, or_cases, or_left}
 use Rattle.std.specs.Cmp.Derive.{both_true}
 use Rattle.std.proofs.lemmas.Option.{none-some, same_Some}
 use Rattle.std.specs.Cmp.Lexicographic.{pointwise}
@@ -22,7 +22,6 @@ use Rattle.wac_composition.specs.Merging.{kept, identified}
 use Rattle.wac_composition.specs.OuterImports.{asked_in, with_new, outer_of, outers_from, outer_imports}
 use Rattle.wac_composition.proofs.KeptFits.{outer_fits}
 use Rattle.wac_composition.proofs.Closures.{steps, reached, reached_within, reached_itself, reached_next, reached_same}
-use Rattle.wac_names.proofs.NameKinds.{or_parts, or_left}
 
 -- ---- asks are akin to themselves, and both ways
 
@@ -53,7 +52,7 @@ track_turned m n e =
     both_true (names_turned (before_at m) (before_at n) h.0) (tracks_turned (version_of m) (version_of n) h.1)
 
 compatible_turned : (m n : Name) → compatible m n ≡ true → compatible n m ≡ true
-compatible_turned m n e = elim (or_parts (bytes_eq m n) (same_track m n) e) [
+compatible_turned m n e = elim (or_cases (bytes_eq m n) (same_track m n) e) [
   | inl h ↦ or_left (bytes_eq n m) (same_track n m) (names_turned m n h)
   | inr h ↦ or_right (bytes_eq n m) (same_track n m) (track_turned m n h)
 ]
@@ -72,7 +71,7 @@ pub itself : {A : Type 0} (a : Ask A) → akin a a ≡ true
 itself a = joined_by_name a a refl
 
 pub turned : {A : Type 0} (a b : Ask A) → akin a b ≡ true → akin b a ≡ true
-turned a b e = elim (or_parts (compatible a.name b.name) (same_text (identifier_asked a) (identifier_asked b)) e) [
+turned a b e = elim (or_cases (compatible a.name b.name) (same_text (identifier_asked a) (identifier_asked b)) e) [
   | inl h ↦ or_left (compatible b.name a.name) (same_text (identifier_asked b) (identifier_asked a)) (compatible_turned a.name b.name h)
   | inr h ↦ or_right (compatible b.name a.name) (same_text (identifier_asked b) (identifier_asked a)) (text_turned (identifier_asked a) (identifier_asked b) h)
 ]

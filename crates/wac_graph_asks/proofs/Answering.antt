@@ -39,7 +39,7 @@ use Rattle.wac_merging.proofs.Well.{stated_are_well}
 use Rattle.wac_graph_asks.specs.declared.asks.Ask.{Ask as HeldAsk}
 use Rattle.wac_graph_asks.specs.declared.asks.Asked.{Asked}
 use Rattle.wac_graph_asks.specs.declared.classes.Classes.{Classes}
-use Rattle.wac_graph_asks.specs.declared.faults.OuterError.{OuterError}
+use Rattle.wac_graph_asks.specs.declared.error.OuterError.{OuterError}
 use Rattle.wac_graph_asks.specs.declared.outers.Outers.{Outers}
 use Rattle.wac_graph_asks.specs.declared.taken.Taken.{Taken}
 use Rattle.wac_graph_asks.specs.Graphs.{composition_of}

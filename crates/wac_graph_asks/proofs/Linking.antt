@@ -5,8 +5,7 @@ use Rattle.std.specs.Prelude.{◌⊎◌, option_map}
 use Rattle.std.proofs.lemmas.Option.{none-some, same_Some, slice_get-map, slice_get_within, slice_get-get_or}
 use Rattle.std.proofs.lemmas.Slice.Eq.{bytes_eq-Decides}
 use Rattle.semver.specs.Parse.{Parts}
-use Rattle.wac_names.proofs.NameKinds.{or_parts, or_left}
-use Rattle.std.proofs.lemmas.Bool.{or_right}
+use Rattle.std.proofs.lemmas.Bool.{or_right, or_cases, or_left}
 use Rattle.wac_types_base.specs.Entries.{Name}
 use Rattle.wac_types_base.specs.Graph.{Among}
 use Rattle.wac_types_base.proofs.Looked.{among-get}
@@ -52,7 +51,7 @@ on_track (Some t) x e = (t.1, ap Some (λ i. (same_Some t.0 x e i, t.1)))
 
 module _ {A : Type 0} (a b : Ask A) where
   pub shares_word : akin a b ≡ true → ShareWord (words_of a) (words_of b)
-  shares_word e = elim (or_parts (compatible a.name b.name) (same_text (identifier_asked a) (identifier_asked b)) e) [
+  shares_word e = elim (or_cases (compatible a.name b.name) (same_text (identifier_asked a) (identifier_asked b)) e) [
     | inl h ↦ by_name (compatible_is a.name b.name h)
     | inr h ↦ inr (inr (same_texts (identifier_asked a) (identifier_asked b) h))
   ]

@@ -7,7 +7,7 @@ use Rattle.std.proofs.lemmas.List.{length-map}
 use Rattle.wac_types_base.specs.Record.{Collection}
 use Rattle.wac_types_base.proofs.Walking.{slice_get-Among}
 use Rattle.wac_graph_core.proofs.Found.{eq_same}
-use Rattle.wac_types_merge.specs.declared.errors.AggregateError.{AggregateError}
+use Rattle.wac_types_merge.specs.declared.error.AggregateError.{AggregateError}
 use Rattle.wac_composition.specs.Asks.{Ask}
 use Rattle.wac_composition.specs.Classes.{class}
 use Rattle.wac_composition.specs.Merging.{kept}

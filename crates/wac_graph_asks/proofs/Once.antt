@@ -2,7 +2,7 @@
 use Rattle.std.proofs.Common.{◌≡◌, List, [], ◌∷◌, ◌++◌, refl, sym, ap, subst, ◌∙◌, inl, inr, append_assoc}
 use Rattle.wac_types_base.specs.Graph.{Among}
 use Rattle.wac_types_base.proofs.Adding.{Among-left, Among-right}
-use Rattle.wac_types_merge.specs.declared.errors.AggregateError.{AggregateError}
+use Rattle.wac_types_merge.specs.declared.error.AggregateError.{AggregateError}
 use Rattle.wac_composition.specs.Asks.{Ask}
 use Rattle.wac_composition.specs.Again.{IsWell, KeepsClasses}
 use Rattle.wac_composition.specs.OuterImports.{outer_imports}

@@ -16,7 +16,7 @@ use Rattle.wac_types_base.proofs.Replacing.{same_number}
 use Rattle.wac_types_base.proofs.Lists.{there_is}
 use Rattle.wac_types_base.proofs.Stating.{stated_kept}
 use Rattle.wac_graph_core.proofs.Found.{eq_same, eq_false}
-use Rattle.wac_types_merge.specs.declared.errors.AggregateError.{AggregateError}
+use Rattle.wac_types_merge.specs.declared.error.AggregateError.{AggregateError}
 use Rattle.wac_composition.specs.Asks.{Ask}
 use Rattle.wac_composition.specs.Merging.{kept as kept_of}
 use Rattle.wac_composition.specs.Again.{IsWell}

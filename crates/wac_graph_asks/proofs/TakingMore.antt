@@ -8,7 +8,7 @@ use Rattle.wac_types_base.specs.Record.{Collection}
 use Rattle.wac_types_base.specs.Entries.{Name}
 use Rattle.wac_types_base.specs.Graph.{Among}
 use Rattle.wac_types_base.specs.Collection.{Stands}
-use Rattle.wac_types_merge.specs.declared.errors.AggregateError.{AggregateError}
+use Rattle.wac_types_merge.specs.declared.error.AggregateError.{AggregateError}
 use Rattle.wac_types_merge.specs.declared.family.Family.{Family}
 use Rattle.wac_types_base.proofs.Replacing.{same_number}
 use Rattle.indexmap.specs.IndexMap.{insert_entry}
@@ -21,7 +21,7 @@ use Rattle.wac_merging.specs.Kept.{Keeps, HasFamily, KeepsAgain, KeepsWith, Keep
 use Rattle.wac_merging.specs.Labelled.{with_label}
 use Rattle.wac_graph_asks.specs.declared.asks.Ask.{Ask as HeldAsk}
 use Rattle.wac_graph_asks.specs.declared.asks.Asking.{Asking}
-use Rattle.wac_graph_asks.specs.declared.faults.OuterError.{OuterError}
+use Rattle.wac_graph_asks.specs.declared.error.OuterError.{OuterError}
 use Rattle.wac_graph_asks.specs.declared.taken.Taken.{Taken}
 use Rattle.wac_graph_asks.specs.Takes.{conflict_by, pair_in, AsksSame, KeepsMore, KeepsNone, NamesConflict, conflict_of, IfConflict, IsNoConflict, IsMerging, RefusesMore, RefusesOne, RefusesAt, TakesOne, Takes}
 

@@ -10,7 +10,7 @@ use Rattle.wac_types_base.specs.Graph.{Among}
 use Rattle.wac_types_base.specs.Collection.{Stands}
 use Rattle.wac_types_parts.specs.Parts.{imports_of}
 use Rattle.wac_types_parts.specs.declared.called.Called.{Called}
-use Rattle.wac_types_merge.specs.declared.errors.AggregateError.{AggregateError}
+use Rattle.wac_types_merge.specs.declared.error.AggregateError.{AggregateError}
 use Rattle.wac_composition.specs.Asks.{Ask}
 use Rattle.wac_composition.specs.Conflicts.{Cause}
 use Rattle.wac_merging.specs.declared.kept.Kept.{Kept}

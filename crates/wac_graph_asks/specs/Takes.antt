@@ -6,7 +6,7 @@ use Rattle.wac_types_base.specs.Graph.{Among}
 use Rattle.wac_types_base.specs.Collection.{Stands}
 use Rattle.wac_types_base.specs.Stated.{stated_of}
 use Rattle.indexmap.specs.IndexMap.{insert_entry}
-use Rattle.wac_types_merge.specs.declared.errors.AggregateError.{AggregateError}
+use Rattle.wac_types_merge.specs.declared.error.AggregateError.{AggregateError}
 use Rattle.wac_graph_core.specs.Graph.{Graph}
 use Rattle.wac_composition.specs.Asks.{Ask, asks_of}
 use Rattle.wac_composition.specs.Classes.{class}
@@ -23,7 +23,7 @@ use Rattle.wac_merging.specs.Unmerged.{TellsUnmerged, TellsConflict}
 use Rattle.wac_graph_asks.specs.declared.asks.Ask.{Ask as HeldAsk}
 use Rattle.wac_graph_asks.specs.declared.asks.Asking.{Asking as HeldAsking}
 use Rattle.wac_graph_asks.specs.declared.asks.Asked.{Asked}
-use Rattle.wac_graph_asks.specs.declared.faults.OuterError.{OuterError}
+use Rattle.wac_graph_asks.specs.declared.error.OuterError.{OuterError}
 use Rattle.wac_graph_asks.specs.declared.taken.Taken.{Taken}
 use Rattle.wac_graph_asks.specs.Graphs.{composition_of}
 use Rattle.wac_graph_asks.specs.AsksIn.{ask_in, asks_in}

@@ -98,12 +98,6 @@ impl Drop for Asked {
     }
 }
 
-fn owned(alloc: Global, text: &str) -> Result<Text, AllocError>
-    ensures { IfOk result (λ t. t ≡ text.now) }
-{
-    Ok(Text::new(String::from_str(alloc, text)?))
-}
-
 /// Adds an ask under a name.
 fn push_ask(
     alloc: Global,
@@ -115,7 +109,7 @@ fn push_ask(
 ) -> Result<(), AllocError>
     ensures { OnOk result (asks.new.items ≡ asks.old.items ++ held_ask asking by name.now item ∷ []) }
 {
-    let name = owned(alloc, name)?;
+    let name = Text::from_str(alloc, name)?;
     asks.push(Ask {
         asking,
         by,
@@ -272,7 +266,7 @@ impl Asked {
             return Ok(());
         };
         let copy = copied_type(alloc, graph, ty, &mut self.types)?;
-        let name = owned(alloc, name)?;
+        let name = Text::from_str(alloc, name)?;
         self.definitions.push(Definition {
             node,
             name,

@@ -1,14 +1,11 @@
 //! Which asks are one outer import, and how it is spelled.
 
-ghost use Rattle.std.specs.Prelude.{◌≡◌, ◌<◌, ◌++◌, [], Some, IfOk, OnOk, length, map};
-ghost use Rattle.std.specs.Bool.{Decides};
+ghost use Rattle.std.specs.Prelude.{◌≡◌, ◌<◌, [], Some, IfOk, OnOk, length};
 ghost use Rattle.semver.specs.Identifiers.{parts_of};
-ghost use Rattle.wac_names.specs.declared.names.NameKind.TheVariants as kind;
 ghost use Rattle.wac_types_base.specs.declared.item.ItemKind.{ItemKind};
 ghost use Rattle.wac_types_base.specs.Stated.{stated_of, identifier_of};
 ghost use Rattle.wac_types_names.specs.Versions.{version_cmp};
 ghost use Rattle.wac_composition.specs.Names.{has_track, is_greater};
-ghost use Rattle.wac_types_names.specs.InterfaceNames.{is_interface_name};
 ghost use Rattle.wac_composition.specs.Classes.{identifier_asked};
 ghost use Rattle.wac_graph_asks.specs.AsksIn.{ask_in, asks_in};
 ghost use Rattle.wac_graph_asks.specs.Joining.{label_at, LeadsTo, Joins, AreSettled, JoinsUnder, JoinsBy};
@@ -20,9 +17,8 @@ use crate::asks::Ask;
 use semver::Version;
 use std::alloc::{AllocError, Global};
 use std::cmp::Ordering;
-use wac_graph_bytes::{NameKind, component_name};
 use wac_types_base::{InterfaceId, ItemKind, NamedMap, Types};
-use wac_types_names::alternate_lookup_key;
+use wac_types_names::{alternate_lookup_key, is_interface_name};
 use wac_types_parts::maps::insert_under;
 
 /// An asked name: its track with its version, and the identifier of the instance that is asked under it.
@@ -53,20 +49,6 @@ fn identifier(types: &Types, id: InterfaceId) -> Option<&str>
         Some(text) => Some(text.as_str()),
         None => None,
     }
-}
-
-/// Whether a name of that kind is one of an interface.
-fn is_interface(name: Option<NameKind>) -> bool
-    ensures { Decides result (name ≡ Some kind.Interface) }
-{
-    matches!(name, Some(NameKind::Interface))
-}
-
-/// Whether the text is the name of an interface.
-fn is_interface_name(alloc: Global, text: &str) -> Result<bool, AllocError>
-    ensures { IfOk result (λ b. b ≡ is_interface_name text.now) }
-{
-    Ok(is_interface(component_name(alloc, text)?))
 }
 
 /// The identifier of an instance that is asked under the name of an interface.

@@ -4,11 +4,11 @@
 pub mod asks;
 pub mod classes;
 pub mod copies;
-pub mod faults;
+pub mod error;
 mod laws;
 pub mod nodes;
 pub mod outers;
 mod taken;
 
-pub use faults::OuterError;
+pub use error::OuterError;
 pub use laws::{asks_once_are_all_asks, first_name_of_a_definition, graphs_are_composed};

@@ -18,7 +18,7 @@ ghost use Rattle.wac_graph_asks.specs.Outers.{AnswersOuters, HasImportsAlone};
 use crate::asks::{Ask, Asked};
 use crate::classes::{Classes, classes_of, has_track, place_at};
 use crate::copies::{add_world, bare_world, filled};
-use crate::faults::OuterError;
+use crate::error::OuterError;
 use crate::taken::{Taken, all_taken};
 use indexmap::IndexMap;
 use std::alloc::{AllocError, Global};

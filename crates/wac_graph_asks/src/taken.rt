@@ -8,7 +8,7 @@ ghost use Rattle.wac_merging.specs.Kept.{IfMerging};
 
 use crate::asks::{Ask, Asking};
 use crate::classes::place_at;
-use crate::faults::OuterError;
+use crate::error::OuterError;
 use indexmap::IndexMap;
 use std::alloc::{AllocError, Global};
 use wac_graph_core::NodeId;

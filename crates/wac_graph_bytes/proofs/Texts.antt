@@ -3,8 +3,8 @@ use Rattle.std.proofs.Common.{◌≡◌, ℕ, Bool, true, true≢false, List, co
 use Rattle.std.specs.Prelude.{Err}
 use Rattle.std.specs.Str.{chars, is_utf8}
 use lib.Utf8.{encode}
-use Rattle.wac_graph_bytes.specs.declared.fault.SizeError.{SizeError}
-use Rattle.wac_graph_bytes.specs.declared.fault.SizeError.TheVariants.{TooLarge, Memory}
+use Rattle.wac_graph_bytes.specs.declared.error.SizeError.{SizeError}
+use Rattle.wac_graph_bytes.specs.declared.error.SizeError.TheVariants.{TooLarge, Memory}
 use Rattle.wac_graph_bytes.specs.Sizes.{name_fits}
 use Rattle.wac_graph_bytes.specs.Writing.{Appends}
 

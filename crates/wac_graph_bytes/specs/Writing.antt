@@ -2,8 +2,8 @@
 use Rattle.std.specs.Prelude.{◌≡◌, Bool, true, false, List, [], ◌∷◌, ℕ, ◌++◌, Result, Ok, Err, Option, Some, None, map, codes, ◌&&◌, length}
 use Rattle.std.specs.List.{flat_map, list_all}
 use Rattle.wac_types_base.specs.Entries.{Name}
-use Rattle.wac_graph_bytes.specs.declared.fault.SizeError.{SizeError}
-use Rattle.wac_graph_bytes.specs.declared.fault.SizeError.TheVariants.{TooLarge, Memory}
+use Rattle.wac_graph_bytes.specs.declared.error.SizeError.{SizeError}
+use Rattle.wac_graph_bytes.specs.declared.error.SizeError.TheVariants.{TooLarge, Memory}
 use Rattle.wac_graph_bytes.specs.declared.value.Sort.{Sort}
 use Rattle.wac_graph_bytes.specs.Leb.{unsigned}
 use Rattle.wac_graph_bytes.specs.Entries.{Entry, Core, Nested, Instantiate, Aliased, Typed, Imported, Exported, Section, Custom, CoreTypes, NestedComponent, Instances, Aliases, Types, Imports, Exports}

@@ -10,7 +10,7 @@ ghost use Rattle.wac_graph_bytes.specs.Writing.{Appends, section_of, entry_fits,
 
 use crate::entries::push_inside;
 use crate::entry::{Entry, IndexName, Processor, SortNames};
-use crate::fault::SizeError;
+use crate::error::SizeError;
 use crate::text::{push_name, push_unsigned};
 use crate::types::push_sort;
 use std::alloc::Global;

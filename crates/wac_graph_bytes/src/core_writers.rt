@@ -6,7 +6,7 @@ ghost use Rattle.wac_graph_bytes.specs.Sizes.{vec_fits, any_fits, name_fits, lim
 ghost use Rattle.wac_graph_bytes.specs.Views.{core_view, module_view};
 ghost use Rattle.wac_graph_bytes.specs.Writing.{Appends};
 
-use crate::fault::SizeError;
+use crate::error::SizeError;
 use crate::module::{CoreDeclaration, CoreDescription, CoreReference, CoreValue, Limits};
 use crate::text::{push_bound, push_name, push_unsigned};
 use std::alloc::AllocError;

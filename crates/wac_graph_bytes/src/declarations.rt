@@ -9,7 +9,7 @@ ghost use Rattle.wac_graph_bytes.specs.Declaring.{one_bytes, one_fits};
 
 use crate::core_writers::push_core_type;
 use crate::entry::Declaration;
-use crate::fault::SizeError;
+use crate::error::SizeError;
 use crate::text::{push_extern_name, push_unsigned};
 use crate::types::{push_alias, push_defined_type, push_description};
 

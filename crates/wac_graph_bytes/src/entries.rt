@@ -10,7 +10,7 @@ ghost use Rattle.wac_graph_bytes.specs.Writing.{Appends, section_of};
 use crate::core_writers::push_core_type;
 use crate::declarations::push_declarations;
 use crate::entry::{Declaration, Entry, Export, NamedIndex};
-use crate::fault::SizeError;
+use crate::error::SizeError;
 use crate::text::{push_extern_name, push_name, push_unsigned};
 use crate::types::{push_alias, push_defined_type, push_description, push_sort};
 use crate::value::Description;

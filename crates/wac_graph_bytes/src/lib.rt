@@ -6,7 +6,7 @@ mod core_writers;
 mod declarations;
 mod entries;
 pub mod entry;
-pub mod fault;
+pub mod error;
 mod laws;
 pub mod module;
 mod text;
@@ -29,7 +29,7 @@ pub use entry::{
     Alias, Case, Declaration, DefinedType, Entry, Export, IndexName, NamedIndex, Param, Processor,
     SortNames,
 };
-pub use fault::SizeError;
+pub use error::SizeError;
 pub use laws::{
     examples, nested_is_shorter, one_reading, one_wiring, renamings, sources_are_earlier,
 };

@@ -1,12 +1,12 @@
 //! LEB128, and names.
 ghost use Rattle.std.specs.Prelude.{◌≡◌, ◌<◌, ◌^◌, ◌++◌, ◌∷◌, [], OnOk, IfErr, map, string_bytes, true, false};
-ghost use Rattle.wac_graph_bytes.specs.declared.fault.SizeError.TheVariants.{TooLarge};
+ghost use Rattle.wac_graph_bytes.specs.declared.error.SizeError.TheVariants.{TooLarge};
 ghost use Rattle.wac_graph_bytes.specs.Leb.{digits, unsigned, signed};
 ghost use Rattle.wac_graph_bytes.specs.Spelling.{name, extern_name, vec};
 ghost use Rattle.wac_graph_bytes.specs.Sizes.{small, name_fits, bound_fits, vec_fits};
 ghost use Rattle.wac_graph_bytes.specs.Writing.{Appends};
 
-use crate::fault::SizeError;
+use crate::error::SizeError;
 use std::alloc::AllocError;
 
 /// The digits of a number, the last one below the limit.

@@ -8,7 +8,7 @@ ghost use Rattle.wac_graph_bytes.specs.Views.{params_view, cases_view, defined_v
 ghost use Rattle.wac_graph_bytes.specs.Writing.{Appends};
 
 use crate::entry::{Alias, Case, DefinedType, Param};
-use crate::fault::SizeError;
+use crate::error::SizeError;
 use crate::text::{push_name, push_names, push_signed, push_unsigned};
 use crate::value::{Description, PrimitiveType, Sort, ValueType};
 use std::alloc::AllocError;

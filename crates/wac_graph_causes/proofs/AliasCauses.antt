@@ -19,7 +19,7 @@ use Rattle.wac_composition.specs.Writable.{is_value, alias_unwritable}
 use Rattle.std.specs.Option.{option_or}
 use Rattle.wac_graph_asks.specs.Graphs.{nodes_of, item_of, alias_with}
 use Rattle.wac_graph_asks.proofs.ByNode.{entry_there}
-use Rattle.wac_graph_causes.specs.declared.errors.Unwritten.{Unwritten}
+use Rattle.wac_graph_causes.specs.declared.error.Unwritten.{Unwritten}
 use Rattle.wac_graph_causes.specs.Unwritable.{TellsName, TellsUnwritable, first_unwritable, is_value_item, is_value_in, is_value_at, alias_cause_by, alias_cause_at, first_alias_cause, alias_cause}
 use Rattle.wac_graph_causes.proofs.FirstCauses.{named_if, tells_named}
 

@@ -9,7 +9,7 @@ use Rattle.wac_composition.specs.Conflicts.{Cause, import_names}
 use Rattle.wac_graph_asks.specs.declared.asks.Asked.{Asked}
 use Rattle.wac_graph_asks.specs.declared.outers.Outers.{Outers}
 use Rattle.wac_graph_asks.specs.Graphs.{origin_of, item_at, composition_of}
-use Rattle.wac_graph_causes.specs.declared.errors.Refusal.{Refusal}
+use Rattle.wac_graph_causes.specs.declared.error.Refusal.{Refusal}
 use Rattle.wac_graph_causes.specs.Alike.{AreHeld, names_imported, imports_alike, exports_alike, TellsAlike, alike_cause, IsAlike}
 use Rattle.wac_graph_causes.proofs.Dependencies.{imports_named}
 
@@ -19,6 +19,7 @@ tells_first o p (Refusal.ImplicitImportConflict i k key n) t = t
 tells_first o p (Refusal.ExplicitImportConflict m i j) t = t
 tells_first o p (Refusal.ImportTypeMergeConflict m i j s) t = t
 tells_first o p (Refusal.TypeCannotBeWritten m) t = t
+tells_first o p Refusal.TypeNotWritten t = t
 tells_first o p Refusal.TooLarge t = t
 tells_first o p Refusal.Memory t = tt
 

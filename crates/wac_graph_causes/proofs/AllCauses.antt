@@ -10,7 +10,7 @@ use Rattle.wac_graph_asks.specs.declared.asks.Asked.{Asked}
 use Rattle.wac_graph_asks.specs.declared.outers.Outers.{Outers}
 use Rattle.wac_graph_asks.specs.Asked.{placed_in}
 use Rattle.wac_graph_asks.specs.Graphs.{composition_of}
-use Rattle.wac_graph_causes.specs.declared.errors.Unwritten.{Unwritten}
+use Rattle.wac_graph_causes.specs.declared.error.Unwritten.{Unwritten}
 use Rattle.wac_graph_causes.specs.Unwritable.{TellsUnwritable, TellsUnwritten, first_unwritable, alias_cause, outer_cause, outers_in, outers_of, defined_in, dependencies_at, packages_unless, types_cause, IsWhole, unwritten_cause}
 use Rattle.wac_graph_causes.proofs.FirstCauses.{told_first, told_after, none_after}
 use Rattle.wac_graph_causes.proofs.Dependencies.{packages_listed}

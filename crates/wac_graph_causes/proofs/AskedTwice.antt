@@ -26,7 +26,7 @@ use Rattle.wac_graph_asks.specs.AsksIn.{asking_of, ask_in, asks_in}
 use Rattle.wac_graph_asks.specs.Asked.{IsAsked}
 use Rattle.wac_graph_asks.proofs.ByNode.{entry_there}
 use Rattle.wac_graph_asks.proofs.ToUse.{all_to_use, listed_to_use}
-use Rattle.wac_graph_causes.specs.declared.errors.Refusal.{Refusal}
+use Rattle.wac_graph_causes.specs.declared.error.Refusal.{Refusal}
 use Rattle.wac_graph_causes.specs.Firsts.{AreFirst}
 use Rattle.wac_graph_causes.specs.Implicit.{named_by, all_named, clash_with, clash_by, first_clash, AreMade, TellsClash, implicit_cause, IsImplicit}
 use Rattle.wac_graph_causes.proofs.Firsts.{or_nothing}

@@ -33,7 +33,7 @@ use Rattle.wac_types_parts.proofs.PartsStated.{imports_are}
 use Rattle.wac_graph_asks.specs.declared.asks.Definition.{Definition}
 use Rattle.wac_graph_asks.specs.declared.outers.Outers.{Outers}
 use Rattle.wac_graph_asks.specs.AskedUses.{CopiesStand}
-use Rattle.wac_graph_causes.specs.declared.errors.Unwritten.{Unwritten}
+use Rattle.wac_graph_causes.specs.declared.error.Unwritten.{Unwritten}
 use Rattle.wac_graph_causes.specs.declared.late.Late.{Late}
 use Rattle.wac_graph_causes.specs.Alike.{dependency_of}
 use Rattle.wac_graph_causes.specs.Circling.{AddsOuters, PackagesStand, form_in, forms_in, held_cause, held_outers, late_cause, package_in, packages_in, under_name, imported_packages}

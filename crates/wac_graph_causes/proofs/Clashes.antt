@@ -15,7 +15,7 @@ use Rattle.std.specs.Option.{option_or}
 use Rattle.wac_composition.specs.Conflicts.{Cause, ImplicitImport}
 use Rattle.wac_graph_asks.specs.declared.asks.Ask.{Ask}
 use Rattle.wac_graph_asks.specs.Reads.{package_id_of}
-use Rattle.wac_graph_causes.specs.declared.errors.Refusal.{Refusal}
+use Rattle.wac_graph_causes.specs.declared.error.Refusal.{Refusal}
 use Rattle.wac_graph_causes.specs.Firsts.{AddsFirst}
 use Rattle.wac_graph_causes.specs.Implicit.{named, all_named, clash, first_clash, TellsAsk, TellsClash}
 use Rattle.wac_graph_causes.proofs.Firsts.{adds_then}
@@ -46,6 +46,7 @@ tells_asked g p import a (Refusal.ImplicitImportConflict i k key n) is t =
 tells_asked g p import a (Refusal.ExplicitImportConflict m i j) is t = t
 tells_asked g p import a (Refusal.ImportTypeMergeConflict m i j s) is t = t
 tells_asked g p import a (Refusal.TypeCannotBeWritten m) is t = t
+tells_asked g p import a Refusal.TypeNotWritten is t = t
 tells_asked g p import a Refusal.TooLarge is t = t
 tells_asked g p import a (Refusal.ValidationFailure s) is t = t
 tells_asked g p import a Refusal.Memory is t = tt
@@ -56,6 +57,7 @@ tells_as g o p (Refusal.ImplicitImportConflict i k key n) h t = (h _ t.0, t.1)
 tells_as g o p (Refusal.ExplicitImportConflict m i j) h t = t
 tells_as g o p (Refusal.ImportTypeMergeConflict m i j s) h t = t
 tells_as g o p (Refusal.TypeCannotBeWritten m) h t = t
+tells_as g o p Refusal.TypeNotWritten h t = t
 tells_as g o p Refusal.TooLarge h t = t
 tells_as g o p (Refusal.ValidationFailure s) h t = t
 tells_as g o p Refusal.Memory h t = tt

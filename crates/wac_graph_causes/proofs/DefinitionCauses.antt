@@ -22,7 +22,7 @@ use Rattle.wac_graph_asks.specs.declared.asks.Asked.{Asked}
 use Rattle.wac_graph_asks.specs.declared.asks.Definition.{Definition}
 use Rattle.wac_graph_asks.specs.declared.outers.Outers.{Outers}
 use Rattle.wac_graph_asks.specs.Asked.{uses_others, HasCopy}
-use Rattle.wac_graph_causes.specs.declared.errors.Unwritten.{Unwritten}
+use Rattle.wac_graph_causes.specs.declared.error.Unwritten.{Unwritten}
 use Rattle.wac_graph_causes.specs.declared.writable.Beside.{Beside}
 use Rattle.wac_graph_causes.specs.Unwritable.{TellsUnwritable, Findings, outers_in, defined_at, defined_in, definition_cause, definitions_cause, defined_cause, StandBeside, HaveCopies, IfAllCopied, IfHeld}
 use Rattle.wac_graph_causes.proofs.FirstCauses.{named_if, cause_next, cause_there, cause_nowhere}

@@ -7,7 +7,7 @@ use Rattle.wac_types_base.specs.Entries.{Name, with_values}
 use Rattle.wac_types_base.specs.Stated.{Stated}
 use Rattle.std.specs.Option.{option_or}
 use Rattle.wac_composition.specs.Conflicts.{Cause, Unwritable, first_found}
-use Rattle.wac_graph_causes.specs.declared.errors.Unwritten.{Unwritten}
+use Rattle.wac_graph_causes.specs.declared.error.Unwritten.{Unwritten}
 use Rattle.wac_graph_causes.specs.Unwritable.{TellsName, TellsUnwritable, first_unwritable}
 
 -- the cause under this name, if it cannot be written

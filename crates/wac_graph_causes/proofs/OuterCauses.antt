@@ -16,7 +16,7 @@ use Rattle.wac_types_parts.specs.Parts.{imports_of}
 use Rattle.wac_writable.specs.Tests.{IsFirst}
 use Rattle.wac_types_parts.proofs.PartsStated.{world_uses_are, imports_are, world_exports_are}
 use Rattle.wac_graph_asks.specs.Outers.{HasImportsAlone}
-use Rattle.wac_graph_causes.specs.declared.errors.Unwritten.{Unwritten}
+use Rattle.wac_graph_causes.specs.declared.error.Unwritten.{Unwritten}
 use Rattle.wac_graph_causes.specs.Unwritable.{TellsName, TellsImport, TellsUnwritable, outer_cause}
 use Rattle.wac_graph_causes.proofs.FirstCauses.{named_if, fails, none_fails, first_fails, tells_named}
 

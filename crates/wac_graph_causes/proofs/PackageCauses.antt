@@ -18,7 +18,7 @@ use Rattle.wac_writable.proofs.ItemLaws.{both_decide}
 use Rattle.wac_composition.specs.Conflicts.{Cause, cause_at}
 use Rattle.wac_graph_asks.specs.declared.asks.Asked.{Asked}
 use Rattle.wac_graph_asks.specs.Asked.{IsWorldOf}
-use Rattle.wac_graph_causes.specs.declared.errors.Unwritten.{Unwritten}
+use Rattle.wac_graph_causes.specs.declared.error.Unwritten.{Unwritten}
 use Rattle.wac_graph_causes.specs.Alike.{dependency_of}
 use Rattle.wac_graph_causes.specs.Unwritable.{TellsUnwritable, first_unwritable, package_world, dependency_at, dependencies_at, package_cause, packages_cause}
 use Rattle.wac_graph_causes.proofs.FirstCauses.{named_if, cause_next, cause_there, cause_nowhere}

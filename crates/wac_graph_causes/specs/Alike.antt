@@ -13,7 +13,7 @@ use Rattle.wac_graph_asks.specs.Graphs.{composition_of}
 use Rattle.wac_graph_asks.specs.Asked.{package_ids, with_ids}
 use Rattle.wac_graph_asks.specs.Outers.{IsOuters}
 use Rattle.wac_names.specs.declared.error.ValidationFault.{ValidationFault}
-use Rattle.wac_graph_causes.specs.declared.errors.Refusal.{Refusal}
+use Rattle.wac_graph_causes.specs.declared.error.Refusal.{Refusal}
 
 -- ---- texts
 

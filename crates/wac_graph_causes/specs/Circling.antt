@@ -23,7 +23,7 @@ use Rattle.wac_graph_asks.specs.declared.asks.Definition.{Definition}
 use Rattle.wac_graph_asks.specs.declared.outers.Outers.{Outers}
 use Rattle.wac_graph_asks.specs.Outers.{AreOuters}
 use Rattle.wac_graph_causes.specs.declared.circles.Written.{Written}
-use Rattle.wac_graph_causes.specs.declared.errors.Unwritten.{Unwritten}
+use Rattle.wac_graph_causes.specs.declared.error.Unwritten.{Unwritten}
 use Rattle.wac_graph_causes.specs.declared.late.Late.{Late}
 use Rattle.wac_graph_causes.specs.Alike.{dependency_of}
 use Rattle.wac_graph_causes.specs.Late.{AddsLate, AreLate, late_in}

@@ -12,7 +12,7 @@ use Rattle.wac_composition.specs.Conflicts.{Cause, ImplicitImport, first_found, 
 use Rattle.wac_graph_asks.specs.declared.asks.Asking.{Asking}
 use Rattle.wac_graph_asks.specs.declared.asks.Ask.{Ask}
 use Rattle.wac_graph_asks.specs.Graphs.{composition_of}
-use Rattle.wac_graph_causes.specs.declared.errors.Refusal.{Refusal}
+use Rattle.wac_graph_causes.specs.declared.error.Refusal.{Refusal}
 
 -- ---- asks by name
 

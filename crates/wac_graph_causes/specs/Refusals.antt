@@ -1,8 +1,8 @@
 -- The refusals that faults below are, and the errors that refusals are.
-use Rattle.wac_graph_asks.specs.declared.faults.OuterError.{OuterError}
-use Rattle.wac_graph_causes.specs.declared.errors.Refusal.{Refusal}
-use Rattle.wac_graph_causes.specs.declared.errors.Unwritten.{Unwritten}
-use Rattle.wac_graph_causes.specs.declared.errors.EncodeError.{EncodeError}
+use Rattle.wac_graph_asks.specs.declared.error.OuterError.{OuterError}
+use Rattle.wac_graph_causes.specs.declared.error.Refusal.{Refusal}
+use Rattle.wac_graph_causes.specs.declared.error.Unwritten.{Unwritten}
+use Rattle.wac_graph_causes.specs.declared.error.EncodeError.{EncodeError}
 
 abbrev pub outer_refusal : OuterError → Refusal
 outer_refusal (OuterError.ExplicitImportConflict name first second) = Refusal.ExplicitImportConflict name first second
@@ -21,6 +21,7 @@ refusal_shown (Refusal.ExplicitImportConflict name first second) = EncodeError.E
 refusal_shown (Refusal.ImportTypeMergeConflict name first second source) =
     EncodeError.ImportTypeMergeConflict name first second source
 refusal_shown (Refusal.TypeCannotBeWritten name) = EncodeError.TypeCannotBeWritten name
+refusal_shown Refusal.TypeNotWritten = EncodeError.TypeNotWritten
 refusal_shown Refusal.TooLarge = EncodeError.TooLarge
 refusal_shown (Refusal.ValidationFailure source) = EncodeError.ValidationFailure source
 refusal_shown Refusal.Memory = EncodeError.Memory

@@ -26,7 +26,7 @@ use Rattle.wac_graph_asks.specs.declared.outers.Outers.{Outers}
 use Rattle.wac_graph_asks.specs.Graphs.{composition_of}
 use Rattle.wac_graph_asks.specs.Asked.{HasCopy, IsHeld, IsWorldOf, placed_in}
 use Rattle.wac_graph_asks.specs.Outers.{HasImportsAlone}
-use Rattle.wac_graph_causes.specs.declared.errors.Unwritten.{Unwritten}
+use Rattle.wac_graph_causes.specs.declared.error.Unwritten.{Unwritten}
 use Rattle.wac_graph_causes.specs.declared.writable.Beside.{Beside}
 use Rattle.wac_graph_causes.specs.Alike.{AreHeld, dependency_of}
 

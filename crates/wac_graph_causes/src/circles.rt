@@ -15,11 +15,10 @@ ghost use Rattle.wac_graph_causes.specs.Circling.{AddsOuters, AreHeldLate, Packa
 ghost use Rattle.wac_graph_causes.specs.Circling.{LatePass, LatePasses, PassLate, PassWritten, CirclesPass};
 ghost use Rattle.wac_graph_causes.specs.Circling.{TellsLate, TellsLateAt, TellsHeld, TellsWritten, TellsCircle};
 
-use crate::errors::Unwritten;
+use crate::error::Unwritten;
 use crate::inside::worlds_in;
 use crate::late::{Late, add_exports, add_world};
 use crate::names::dependency_name;
-use crate::order::text_of;
 use crate::spelling::names_called;
 use crate::writable::unwritable;
 use indexmap::IndexMap;
@@ -27,7 +26,7 @@ use std::alloc::{AllocError, Global};
 use wac_graph_asks::asks::Definition;
 use wac_graph_asks::outers::Outers;
 use wac_graph_core::{CompositionGraph, PackageId};
-use wac_types_base::{ItemKind, NamedMap, Types, WorldId, copy_items};
+use wac_types_base::{ItemKind, NamedMap, Text, Types, WorldId, copy_items};
 use wac_types_parts::parts::Item;
 use wac_writable::unnamed::Unnamed;
 use wac_writable::writable::{Test, is_unwritable_alone};
@@ -44,7 +43,7 @@ fn add_under(
     ensures { OnOk result (all.new.items ≡ all.old.items ++ map (under_name name.now) late.now) }
 {
     for one in late {
-        let name = text_of(alloc, name)?;
+        let name = Text::from_str(alloc, name)?;
         let item = one.item;
         all.push(Late { name, item })?;
     }
@@ -154,7 +153,7 @@ fn push_late(
 ) -> Result<(), AllocError>
     ensures { OnOk result (all.new.items ≡ all.old.items ++ record { name = name.now; item = item } ∷ []) }
 {
-    let name = text_of(alloc, name)?;
+    let name = Text::from_str(alloc, name)?;
     all.push(Late { name, item })?;
     Ok(())
 }

@@ -7,7 +7,7 @@ ghost use Rattle.wac_graph_causes.specs.Firsts.{AddsFirst, AreFirst};
 ghost use Rattle.wac_graph_causes.specs.Implicit.{AreMade, IsImplicit, IsMade, TellsAsk, TellsClash};
 ghost use Rattle.wac_graph_causes.specs.Implicit.{all_named, clash, clash_named, first_clash, implicit_cause, named};
 
-use crate::errors::Refusal;
+use crate::error::Refusal;
 use std::alloc::{AllocError, Global};
 use wac_graph_asks::asks::{Ask, Asked, Asking};
 use wac_graph_asks::nodes::{package_at, package_of};

@@ -13,7 +13,7 @@ ghost use Rattle.wac_graph_causes.specs.Late.{world_written, written_after, writ
 ghost use Rattle.wac_graph_causes.specs.Standing.{spelled_in};
 
 use crate::beside::beside;
-use crate::order::{Sources, text_of, written_names};
+use crate::order::{Sources, written_names};
 use crate::standing::Standing;
 use std::alloc::{AllocError, Global};
 use wac_types_base::{ItemKind, NamedMap, Names, Text, Type, Types, WorldId};
@@ -105,7 +105,7 @@ fn add_written(
         return Ok(());
     };
     let item = beside(types, alloc, *item, standing)?;
-    let name = text_of(alloc, name)?;
+    let name = Text::from_str(alloc, name)?;
     all.push(Late { name, item })?;
     Ok(())
 }

@@ -3,7 +3,7 @@
 
 mod beside;
 pub mod circles;
-pub mod errors;
+pub mod error;
 pub mod implicit;
 mod inside;
 mod late;
@@ -13,4 +13,4 @@ mod spelling;
 mod standing;
 pub mod writable;
 
-pub use errors::EncodeError;
+pub use error::EncodeError;

@@ -9,7 +9,7 @@ ghost use Rattle.wac_graph_causes.specs.Firsts.{AddsFirst};
 ghost use Rattle.wac_graph_causes.specs.Alike.{AddsText, AreHeld, AreTwins, IsAlike, TellsAlike, alike_cause, both_texts, dependency_of};
 ghost use Rattle.wac_graph_causes.specs.Alike.{exports_alike, imports_alike, likeness, names_imported, outer_names, package_name, package_names};
 
-use crate::errors::Refusal;
+use crate::error::Refusal;
 use semver::Version;
 use std::alloc::{AllocError, Global};
 use wac_graph_asks::asks::Asked;

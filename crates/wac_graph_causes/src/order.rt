@@ -24,19 +24,11 @@ pub(crate) struct Sources<'a> {
     pub interfaces: &'a NamedMap<ItemKind>,
 }
 
-/// A text of its own.
-pub(crate) fn text_of(alloc: Global, name: &str) -> Result<Text, AllocError>
-    ensures { IfOk result (λ t. t ≡ name.now) }
-{
-    let name = String::from_str(alloc, name)?;
-    Ok(Text::new(name))
-}
-
 /// Adds a name behind others.
 fn push_name(alloc: Global, names: &mut Vec<Text>, name: &str) -> Result<(), AllocError>
     ensures { OnOk result (names.new.items ≡ names.old.items ++ name.now ∷ []) }
 {
-    let name = text_of(alloc, name)?;
+    let name = Text::from_str(alloc, name)?;
     names.push(name)?;
     Ok(())
 }

@@ -3,7 +3,6 @@
 ghost use Rattle.std.specs.Prelude.{IfOk, OnOk};
 ghost use Rattle.wac_graph_causes.specs.Spelling.{NotesCalled, SpellsAll};
 
-use crate::order::text_of;
 use std::alloc::{AllocError, Global};
 use wac_types_base::{NamedMap, Text, Types, WorldId};
 use wac_types_parts::called::Called;
@@ -22,7 +21,7 @@ fn add_called(
 {
     match import_at(types, world, called.at) {
         Some(import) => {
-            let name = text_of(alloc, import.name)?;
+            let name = Text::from_str(alloc, import.name)?;
             insert_under(alloc, kept, called.name.as_str(), name)
         }
         None => Ok(()),

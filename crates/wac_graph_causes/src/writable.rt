@@ -9,7 +9,7 @@ ghost use Rattle.wac_graph_causes.specs.Unwritable.{KeepsBeside, TellsDefined, D
 ghost use Rattle.wac_graph_causes.specs.Unwritable.{EachPasses, TellsFirstOf, DefinitionsPass, TellsDefinitionCause};
 ghost use Rattle.wac_graph_causes.specs.Unwritable.{TypesPass, TellsTypesCause, IsWhole, TellsUnwritten, unwritten_cause};
 
-use crate::errors::Unwritten;
+use crate::error::Unwritten;
 use crate::names::dependency_name;
 use std::alloc::{AllocError, Global};
 use wac_graph_asks::asks::{Asked, Definition};

@@ -16,6 +16,7 @@ use Rattle.wac_types_base.specs.declared.item.ItemKind.{ItemKind}
 use Rattle.wac_types_base.specs.declared.item.«Type».{«Type» as TypeKind}
 use Rattle.wac_types_base.specs.Graph.{Among}
 use Rattle.wac_types_base.specs.Record.{Collection}
+use Rattle.wac_types_base.specs.Kept.{keeping}
 use Rattle.wac_types_base.specs.Collection.{Stands, IsAcyclic, empty, plus, item_node, slots_in, slots_of}
 use Rattle.wac_types_base.specs.Visiting.{defined_in, skipped, below, interface_uses, world_uses}
 use Rattle.wac_types_base.proofs.Adding.{slice_get-left, item_extends}
@@ -106,28 +107,28 @@ module _ (c : Collection) (acyclic : IsAcyclic c) where
           by_result (Ok x) ok err = at_more more all new b same ok is
           by_result (Err e) ok err = subst (λ t. ReachBelow t m b) (sym err) is
 
-      pub ReachBelow-defined_type : (x : DefinedType) → OnOk r (new ≡ record c { defined_types = c.defined_types ++ x ∷ [] }) → ReachBelow new m b
-      ReachBelow-defined_type x = longer (record (empty 0) { defined_types = x ∷ [] }) (record c { defined_types = c.defined_types ++ x ∷ [] }) (simp append-nil)
+      pub ReachBelow-defined_type : (x : DefinedType) → OnOk r (new ≡ keeping new.kept (record c { defined_types = c.defined_types ++ x ∷ [] })) → ReachBelow new m b
+      ReachBelow-defined_type x = longer (record (empty 0) { defined_types = x ∷ []; kept = new.kept }) (keeping new.kept (record c { defined_types = c.defined_types ++ x ∷ [] })) (simp append-nil)
 
-      pub ReachBelow-resource : (x : Resource) → OnOk r (new ≡ record c { resources = c.resources ++ x ∷ [] }) → ReachBelow new m b
-      ReachBelow-resource x = longer (record (empty 0) { resources = x ∷ [] }) (record c { resources = c.resources ++ x ∷ [] }) (simp append-nil)
+      pub ReachBelow-resource : (x : Resource) → OnOk r (new ≡ keeping new.kept (record c { resources = c.resources ++ x ∷ [] })) → ReachBelow new m b
+      ReachBelow-resource x = longer (record (empty 0) { resources = x ∷ []; kept = new.kept }) (keeping new.kept (record c { resources = c.resources ++ x ∷ [] })) (simp append-nil)
 
-      pub ReachBelow-func_type : (x : FuncType) → OnOk r (new ≡ record c { func_types = c.func_types ++ x ∷ [] }) → ReachBelow new m b
-      ReachBelow-func_type x = longer (record (empty 0) { func_types = x ∷ [] }) (record c { func_types = c.func_types ++ x ∷ [] }) (simp append-nil)
+      pub ReachBelow-func_type : (x : FuncType) → OnOk r (new ≡ keeping new.kept (record c { func_types = c.func_types ++ x ∷ [] })) → ReachBelow new m b
+      ReachBelow-func_type x = longer (record (empty 0) { func_types = x ∷ []; kept = new.kept }) (keeping new.kept (record c { func_types = c.func_types ++ x ∷ [] })) (simp append-nil)
 
-      pub ReachBelow-interface : (x : Interface) → OnOk r (new ≡ record c { interfaces = c.interfaces ++ x ∷ [] }) → ReachBelow new m b
-      ReachBelow-interface x = longer (record (empty 0) { interfaces = x ∷ [] }) (record c { interfaces = c.interfaces ++ x ∷ [] }) (simp append-nil)
+      pub ReachBelow-interface : (x : Interface) → OnOk r (new ≡ keeping new.kept (record c { interfaces = c.interfaces ++ x ∷ [] })) → ReachBelow new m b
+      ReachBelow-interface x = longer (record (empty 0) { interfaces = x ∷ []; kept = new.kept }) (keeping new.kept (record c { interfaces = c.interfaces ++ x ∷ [] })) (simp append-nil)
 
-      pub ReachBelow-world : (x : World) → OnOk r (new ≡ record c { worlds = c.worlds ++ x ∷ [] }) → ReachBelow new m b
-      ReachBelow-world x = longer (record (empty 0) { worlds = x ∷ [] }) (record c { worlds = c.worlds ++ x ∷ [] }) (simp append-nil)
+      pub ReachBelow-world : (x : World) → OnOk r (new ≡ keeping new.kept (record c { worlds = c.worlds ++ x ∷ [] })) → ReachBelow new m b
+      ReachBelow-world x = longer (record (empty 0) { worlds = x ∷ []; kept = new.kept }) (keeping new.kept (record c { worlds = c.worlds ++ x ∷ [] })) (simp append-nil)
 
-      pub ReachBelow-module : (x : ModuleType) → OnOk r (new ≡ record c { modules = c.modules ++ x ∷ [] }) → ReachBelow new m b
-      ReachBelow-module x = longer (record (empty 0) { modules = x ∷ [] }) (record c { modules = c.modules ++ x ∷ [] }) (simp append-nil)
+      pub ReachBelow-module : (x : ModuleType) → OnOk r (new ≡ keeping new.kept (record c { modules = c.modules ++ x ∷ [] })) → ReachBelow new m b
+      ReachBelow-module x = longer (record (empty 0) { modules = x ∷ []; kept = new.kept }) (keeping new.kept (record c { modules = c.modules ++ x ∷ [] })) (simp append-nil)
 
     -- the same where a package was made
     pub ReachBelow-package : {E : Type 0} (r : Result Packaged E) (new : Collection) (w : WorldId) (b : ℕ) → IfOk r (λ p. AddsInterfaceOf c new w p.instance_type) → OnErr r (new ≡ c) → ReachBelow c m b → ReachBelow new m b
     ReachBelow-package (Ok p) new w b added err is =
-        at_more (record (empty 0) { interfaces = added.interface ∷ [] }) (record c { interfaces = c.interfaces ++ added.interface ∷ [] }) new b (simp append-nil) added.collection is
+        at_more (record (empty 0) { interfaces = added.interface ∷ []; kept = new.kept }) (keeping new.kept (record c { interfaces = c.interfaces ++ added.interface ∷ [] })) new b (simp append-nil) added.collection is
     ReachBelow-package (Err e) new w b added err is = subst (λ t. ReachBelow t m b) (sym err) is
 
 -- ---- nodes come and go

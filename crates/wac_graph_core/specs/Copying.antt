@@ -3,6 +3,7 @@ use Rattle.std.specs.Prelude.{◌≡◌, ℕ, map, option_map}
 use Rattle.std.specs.FinMap as finite
 use Rattle.wac_types_base.specs.declared.item.ItemKind.{ItemKind}
 use Rattle.wac_types_base.specs.Record.{Collection}
+use Rattle.wac_types_base.specs.Kept.{keeping}
 use Rattle.wac_types_base.specs.Collection.{Stands}
 use Rattle.wac_types_base.specs.Copying.{IsCopy}
 use Rattle.wac_types_base.specs.Renaming.{kind_under, renumbered}
@@ -25,7 +26,7 @@ abbrev pub place_under : ℕ → Place → Place
 place_under n p = record p { held = option_map (packaged_under n) p.held }
 
 pub record IsGraphUnder (n : ℕ) (old new : Graph) : Type 0 where
-  pub types : new.types ≡ renumbered n old.types
+  pub types : new.types ≡ keeping new.types.kept (renumbered n old.types)
   pub nodes : AreUnder n old.nodes new.nodes
   pub edges : new.edges ≡ old.edges
   pub exports : new.exports ≡ old.exports

@@ -10,7 +10,7 @@ use Rattle.wac_types_base.specs.Entries.{Name, value_at}
 use Rattle.wac_types_base.specs.Graph.{Among}
 use Rattle.wac_types_base.specs.Visiting.{defined_in}
 use Rattle.wac_graph_core.specs.declared.edge.Edge.{Edge}
-use Rattle.wac_graph_core.specs.declared.errors.DefineTypeError.{DefineTypeError}
+use Rattle.wac_graph_core.specs.declared.error.DefineTypeError.{DefineTypeError}
 use Rattle.wac_graph_core.specs.Nodes.{NodeData, Role, IsResource, defined_node}
 use Rattle.wac_graph_core.specs.NodeMaps.{NodeMap, AreBelow, IsDefinition, NoDefinition}
 use Rattle.wac_graph_core.specs.Edges.{AreEdges, dependency_edge}

@@ -5,8 +5,8 @@ use Rattle.std.specs.List.{swap_remove}
 use Rattle.std.specs.Cmp.Lexicographic.{pointwise}
 use Rattle.std.specs.FinMap as map
 use Rattle.wac_types_base.specs.Entries.{Name, value_at}
-use Rattle.wac_graph_core.specs.declared.errors.ExportError.{ExportError}
-use Rattle.wac_graph_core.specs.declared.errors.UnexportError.{UnexportError}
+use Rattle.wac_graph_core.specs.declared.error.ExportError.{ExportError}
+use Rattle.wac_graph_core.specs.declared.error.UnexportError.{UnexportError}
 use Rattle.wac_graph_core.specs.Nodes.{NodeData, Role, imported_as}
 use Rattle.wac_graph_core.specs.Graph.{Graph, node_at}
 use Rattle.wac_names.specs.declared.names.NameKind.{NameKind}

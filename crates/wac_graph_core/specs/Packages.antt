@@ -14,7 +14,7 @@ use Rattle.wac_types_names.specs.Packages.{interface_of}
 use Rattle.wac_types_names.specs.Keys.{Key, package_key, owned_key}
 use Rattle.wac_graph_core.specs.declared.ids.PackageId.{PackageId}
 use Rattle.wac_graph_core.specs.declared.package.Place.{Place}
-use Rattle.wac_graph_core.specs.declared.errors.RegisterPackageError.{RegisterPackageError}
+use Rattle.wac_graph_core.specs.declared.error.RegisterPackageError.{RegisterPackageError}
 use Rattle.wac_graph_core.specs.NodeMaps.{AreInstances}
 use Rattle.wac_graph_core.specs.Graph.{Graph, ContainsPackage, package_of}
 use Rattle.wac_graph_core.specs.Removing.{RemovesNodes}

@@ -8,15 +8,15 @@ use Rattle.wac_types_base.specs.Tree.{tree}
 use Rattle.wac_types_base.specs.Fits.{Fits}
 use Rattle.wac_types_written.specs.Written.{written_definition}
 use Rattle.wac_types_names.specs.Packaged.{Packaged}
-use Rattle.wac_types_fit.specs.declared.errors.SubtypeError.{SubtypeError}
+use Rattle.wac_types_fit.specs.declared.error.SubtypeError.{SubtypeError}
 use Rattle.wac_types_fit.specs.Trees.{Fit, tree_in}
 use Rattle.wac_types_fit.specs.Frames.{Step, Disagree}
 use Rattle.wac_types_fit.specs.Errors.{steps_of, words_of}
 use Rattle.wac_types_fit.specs.Words.{Called}
 use Rattle.wac_graph_core.specs.declared.edge.Follow.{Follow}
-use Rattle.wac_graph_core.specs.declared.errors.ImportError.{ImportError}
-use Rattle.wac_graph_core.specs.declared.errors.AliasError.{AliasError}
-use Rattle.wac_graph_core.specs.declared.errors.InstantiationArgumentError.{InstantiationArgumentError}
+use Rattle.wac_graph_core.specs.declared.error.ImportError.{ImportError}
+use Rattle.wac_graph_core.specs.declared.error.AliasError.{AliasError}
+use Rattle.wac_graph_core.specs.declared.error.InstantiationArgumentError.{InstantiationArgumentError}
 use Rattle.wac_graph_core.specs.NodeMaps.{IsImport, NoImport}
 use Rattle.wac_graph_core.specs.Edges.{HasArgument, Reaches}
 use Rattle.wac_graph_core.specs.Nodes.{NodeData}

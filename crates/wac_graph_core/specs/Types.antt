@@ -14,6 +14,7 @@ use Rattle.wac_types_base.specs.declared.defined.Interface.{Interface}
 use Rattle.wac_types_base.specs.declared.defined.World.{World}
 use Rattle.wac_types_base.specs.declared.core_types.ModuleType.{ModuleType}
 use Rattle.wac_types_base.specs.Record.{Collection}
+use Rattle.wac_types_base.specs.Kept.{keeping}
 use Rattle.wac_types_base.specs.Collection.{Grows}
 use Rattle.wac_types_base.specs.Copying.{IsCopy}
 use Rattle.wac_types_names.specs.Packaged.{Packaged}
@@ -32,22 +33,28 @@ pub record Enlarges (old new : Graph) : Type 0 where
 -- ---- one entry more, behind the others of its sort, and nothing else is changed
 
 abbrev pub AddsDefinedType : Graph → Graph → DefinedType → Type 0
-AddsDefinedType old new t = new ≡ with_collection old (record old.types { defined_types = old.types.defined_types ++ t ∷ [] })
+AddsDefinedType old new t =
+    new ≡ with_collection old (keeping new.types.kept (record old.types { defined_types = old.types.defined_types ++ t ∷ [] }))
 
 abbrev pub AddsResource : Graph → Graph → Resource → Type 0
-AddsResource old new r = new ≡ with_collection old (record old.types { resources = old.types.resources ++ r ∷ [] })
+AddsResource old new r =
+    new ≡ with_collection old (keeping new.types.kept (record old.types { resources = old.types.resources ++ r ∷ [] }))
 
 abbrev pub AddsFuncType : Graph → Graph → FuncType → Type 0
-AddsFuncType old new f = new ≡ with_collection old (record old.types { func_types = old.types.func_types ++ f ∷ [] })
+AddsFuncType old new f =
+    new ≡ with_collection old (keeping new.types.kept (record old.types { func_types = old.types.func_types ++ f ∷ [] }))
 
 abbrev pub AddsInterface : Graph → Graph → Interface → Type 0
-AddsInterface old new i = new ≡ with_collection old (record old.types { interfaces = old.types.interfaces ++ i ∷ [] })
+AddsInterface old new i =
+    new ≡ with_collection old (keeping new.types.kept (record old.types { interfaces = old.types.interfaces ++ i ∷ [] }))
 
 abbrev pub AddsWorld : Graph → Graph → World → Type 0
-AddsWorld old new w = new ≡ with_collection old (record old.types { worlds = old.types.worlds ++ w ∷ [] })
+AddsWorld old new w =
+    new ≡ with_collection old (keeping new.types.kept (record old.types { worlds = old.types.worlds ++ w ∷ [] }))
 
 abbrev pub AddsModuleType : Graph → Graph → ModuleType → Type 0
-AddsModuleType old new m = new ≡ with_collection old (record old.types { modules = old.types.modules ++ m ∷ [] })
+AddsModuleType old new m =
+    new ≡ with_collection old (keeping new.types.kept (record old.types { modules = old.types.modules ++ m ∷ [] }))
 
 -- ---- the id that the next entry gets
 

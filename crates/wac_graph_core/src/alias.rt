@@ -9,7 +9,7 @@ ghost use Rattle.wac_graph_core.specs.Steps.{Aliases};
 ghost use Rattle.wac_graph_core.specs.Refusals.{AliasRefused};
 
 use crate::edge::{Edge, Label, add_edge, find_alias, find_source};
-use crate::errors::AliasError;
+use crate::error::AliasError;
 use crate::graph::CompositionGraph;
 use crate::ids::NodeId;
 use crate::node::{Node, NodeKind};

@@ -9,7 +9,7 @@ ghost use Rattle.wac_graph_core.specs.Steps.{NodeFits, SetsArgument, UnsetsArgum
 ghost use Rattle.wac_graph_core.specs.Refusals.{ArgumentRefused, LacksImport, TellsMismatch, NodeMismatches, WrittenFits, WrittenMismatches};
 
 use crate::edge::{Edge, Follow, add_edge, find_argument, is_among, reached_from, remove_argument};
-use crate::errors::InstantiationArgumentError;
+use crate::error::InstantiationArgumentError;
 use crate::graph::CompositionGraph;
 use crate::ids::NodeId;
 use std::alloc::{AllocError, Global};

@@ -10,12 +10,12 @@ ghost use Rattle.wac_graph_core.specs.Defining.{IsUserOf, MayDefine, DefinesType
 
 use crate::edge::{Edge, Label};
 use crate::edges::Edges;
-use crate::errors::{DefineTypeError, NameError};
+use crate::error::{DefineTypeError, NameError};
 use crate::graph::{CompositionGraph, is_extern_name};
 use crate::ids::NodeId;
 use crate::node::Node;
-use crate::reach::defined_of;
 use std::alloc::AllocError;
+use wac_types_base::visit::defined_of;
 use wac_types_base::{ItemKind, Text, Type};
 
 fn is_resource(ty: Type) -> bool

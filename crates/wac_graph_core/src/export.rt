@@ -7,7 +7,7 @@ ghost use Rattle.wac_types_base.specs.Entries.{value_at};
 ghost use Rattle.wac_graph_core.specs.Graph.{ContainsNode, node_at};
 ghost use Rattle.wac_graph_core.specs.Exporting.{IsExportName, Exports, IsTold, Unexports, Names, ExportRefused, UnexportRefused, import_name_of};
 
-use crate::errors::{ExportError, NameError, UnexportError};
+use crate::error::{ExportError, NameError, UnexportError};
 use crate::graph::CompositionGraph;
 use crate::ids::NodeId;
 use crate::named::NamedNodes;

@@ -9,7 +9,7 @@ ghost use Rattle.wac_graph_core.specs.Steps.{IsExternName, Imports, Instantiates
 ghost use Rattle.wac_graph_core.specs.Refusals.{ImportRefused};
 
 use crate::edges::Edges;
-use crate::errors::{ImportError, NameError};
+use crate::error::{ImportError, NameError};
 use crate::ids::{NodeId, PackageId};
 use crate::named::NamedNodes;
 use crate::node::{Node, NodeKind};

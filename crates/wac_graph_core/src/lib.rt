@@ -7,7 +7,7 @@ mod copying;
 mod definition;
 mod edge;
 mod edges;
-pub mod errors;
+pub mod error;
 mod export;
 pub mod graph;
 pub mod ids;
@@ -31,7 +31,7 @@ mod type_set;
 pub mod types_mut;
 mod wiring;
 
-pub use errors::{
+pub use error::{
     AliasError, DefineTypeError, ExportError, ImportError, InstantiationArgumentError, NameError,
     RegisterPackageError, UnexportError,
 };

@@ -18,13 +18,14 @@ ghost use Rattle.wac_graph_core.specs.Slots.{nodes_in};
 use crate::ids::{NodeId, PackageId};
 use crate::node::Node;
 use crate::noted::{Noted, defined_type, none_noted, with_node, without_node};
-use crate::reach::{defined_of, is_marked, mark_reached, reaches};
+use crate::reach::{is_marked, mark_reached, reaches};
 use crate::slots::{SlotIter, export_at, name_at, take_at, trim};
 use crate::type_map::TypeMap;
 use crate::type_set::TypeSet;
 use std::alloc::{AllocError, Global};
 use std::marker::Model;
 use wac_types_base::replace::is_same;
+use wac_types_base::visit::defined_of;
 use wac_types_base::{DefinedTypeId, ItemKind, Text, Type, Types};
 
 /// Nodes under indexes that it picks. They rise: a new node is put behind all others. A slot that was emptied stays so

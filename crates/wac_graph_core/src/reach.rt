@@ -1,25 +1,14 @@
 //! Which defined types a type reaches. Marks remember what was found, so no defined type is walked twice.
 
-ghost use Rattle.std.specs.Prelude.{◌≡◌, ◌⊎◌, ◌↔◌, IsTrue, IfOk, OnOk, Some};
+ghost use Rattle.std.specs.Prelude.{◌≡◌, ◌↔◌, IsTrue, IfOk, OnOk, Some};
 ghost use Rattle.std.specs.Bool.{Decides};
 ghost use Rattle.wac_types_base.specs.Collection.{Stands};
-ghost use Rattle.wac_types_base.specs.Visiting.{defined_in};
-ghost use Rattle.wac_graph_core.specs.Reaching.{Reaches, IsMarked, MarkedOwn, IsClosed, Gathers, Marks, IsWithout};
+ghost use Rattle.wac_graph_core.specs.Reaching.{Reaches, MarkedOwn, IsClosed, Gathers, Marks, IsWithout};
 
 use crate::type_set::TypeSet;
 use std::alloc::AllocError;
+use wac_types_base::visit::defined_of;
 use wac_types_base::{DefinedTypeId, ItemKind, Type, Types, ValueType};
-
-/// The defined type that a kind is.
-pub(crate) fn defined_of(kind: ItemKind) -> Option<DefinedTypeId>
-    ensures { result ≡ defined_in kind }
-{
-    match kind {
-        ItemKind::Value(ValueType::Defined(id)) => Some(id),
-        ItemKind::Ty(Type::Value(ValueType::Defined(id))) => Some(id),
-        _ => None,
-    }
-}
 
 /// Whether the defined type is marked, if it is one.
 pub(crate) fn is_marked(marks: &TypeSet, own: Option<DefinedTypeId>) -> bool

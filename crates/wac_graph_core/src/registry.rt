@@ -8,7 +8,7 @@ ghost use Rattle.wac_graph_core.specs.Packages.{HoldsKey, HoldsKeyAt, NoneHoldsK
 ghost use Rattle.wac_graph_core.specs.Packages.{Registers, RegisterRefused, Unregisters, PlacesGrow, IsStale};
 
 use crate::edge::{Follow, reached};
-use crate::errors::RegisterPackageError;
+use crate::error::RegisterPackageError;
 use crate::graph::CompositionGraph;
 use crate::ids::PackageId;
 use crate::package::Place;

@@ -3,6 +3,7 @@
 ghost use Rattle.std.specs.Prelude.{◌≡◌, OnOk, OnErr, IfOk, option_map, option_copied};
 ghost use Rattle.semver.specs.Identifiers.{parts_of};
 ghost use Rattle.wac_types_base.specs.Collection.{Stands, HasChildren, func_entry, interface_entry, world_entry, defined_entry, resource_entry};
+ghost use Rattle.wac_types_base.specs.Kept.{KeepsDefinedType, KeepsResource, KeepsFuncType, KeepsInterface, KeepsWorld, KeepsModuleType};
 ghost use Rattle.wac_types_base.specs.declared.item.ItemKind.{ItemKind};
 ghost use Rattle.wac_types_names.specs.Packages.{DefinitionsOf};
 ghost use Rattle.wac_graph_core.specs.Graph.{PackageStands};
@@ -56,6 +57,7 @@ impl CompositionGraph {
     fn add_defined_type(&mut self, ty: DefinedType) -> Result<DefinedTypeId, AllocError>
         requires { HasChildren self.old.types (defined_entry ty) }
         ensures added { OnOk result (AddsDefinedType self.old self.new ty) }
+        ensures kept { OnOk result (KeepsDefinedType self.old.types.kept self.new.types.kept ty) }
         ensures id { IfOk result (λ i. i ≡ next_defined_type self.old.types) }
         ensures err { OnErr result (self.new ≡ self.old) }
         ensures grows { Enlarges self.old self.new }
@@ -67,6 +69,7 @@ impl CompositionGraph {
     fn add_resource(&mut self, resource: Resource) -> Result<ResourceId, AllocError>
         requires { HasChildren self.old.types (resource_entry resource) }
         ensures added { OnOk result (AddsResource self.old self.new resource) }
+        ensures kept { OnOk result (KeepsResource self.old.types.kept self.new.types.kept resource) }
         ensures id { IfOk result (λ i. i ≡ next_resource self.old.types) }
         ensures err { OnErr result (self.new ≡ self.old) }
         ensures grows { Enlarges self.old self.new }
@@ -78,6 +81,7 @@ impl CompositionGraph {
     fn add_func_type(&mut self, func: FuncType) -> Result<FuncTypeId, AllocError>
         requires { HasChildren self.old.types (func_entry func) }
         ensures added { OnOk result (AddsFuncType self.old self.new func) }
+        ensures kept { OnOk result (KeepsFuncType self.old.types.kept self.new.types.kept func) }
         ensures id { IfOk result (λ i. i ≡ next_func_type self.old.types) }
         ensures err { OnErr result (self.new ≡ self.old) }
         ensures grows { Enlarges self.old self.new }
@@ -89,6 +93,7 @@ impl CompositionGraph {
     fn add_interface(&mut self, interface: Interface) -> Result<InterfaceId, AllocError>
         requires { HasChildren self.old.types (interface_entry interface) }
         ensures added { OnOk result (AddsInterface self.old self.new interface) }
+        ensures kept { OnOk result (KeepsInterface self.old.types.kept self.new.types.kept interface) }
         ensures id { IfOk result (λ i. i ≡ next_interface self.old.types) }
         ensures err { OnErr result (self.new ≡ self.old) }
         ensures grows { Enlarges self.old self.new }
@@ -100,6 +105,7 @@ impl CompositionGraph {
     fn add_world(&mut self, world: World) -> Result<WorldId, AllocError>
         requires { HasChildren self.old.types (world_entry world) }
         ensures added { OnOk result (AddsWorld self.old self.new world) }
+        ensures kept { OnOk result (KeepsWorld self.old.types.kept self.new.types.kept world) }
         ensures id { IfOk result (λ i. i ≡ next_world self.old.types) }
         ensures err { OnErr result (self.new ≡ self.old) }
         ensures grows { Enlarges self.old self.new }
@@ -110,6 +116,7 @@ impl CompositionGraph {
 
     fn add_module_type(&mut self, ty: ModuleType) -> Result<ModuleTypeId, AllocError>
         ensures added { OnOk result (AddsModuleType self.old self.new ty) }
+        ensures kept { OnOk result (KeepsModuleType self.old.types.kept self.new.types.kept ty) }
         ensures id { IfOk result (λ i. i ≡ next_module_type self.old.types) }
         ensures err { OnErr result (self.new ≡ self.old) }
         ensures grows { Enlarges self.old self.new }
@@ -124,6 +131,7 @@ impl<'a> TypesMut<'a> {
     pub fn add_defined_type(&mut self, ty: DefinedType) -> Result<DefinedTypeId, AllocError>
         requires { HasChildren self.old.graph.now.types (defined_entry ty) }
         ensures added { OnOk result (AddsDefinedType self.old.graph.now self.new.graph.now ty) }
+        ensures kept { OnOk result (KeepsDefinedType self.old.graph.now.types.kept self.new.graph.now.types.kept ty) }
         ensures id { IfOk result (λ i. i ≡ next_defined_type self.old.graph.now.types) }
         ensures err { OnErr result (self.new.graph.now ≡ self.old.graph.now) }
         ensures grows { Enlarges self.old.graph.now self.new.graph.now }
@@ -136,6 +144,7 @@ impl<'a> TypesMut<'a> {
     pub fn add_resource(&mut self, resource: Resource) -> Result<ResourceId, AllocError>
         requires { HasChildren self.old.graph.now.types (resource_entry resource) }
         ensures added { OnOk result (AddsResource self.old.graph.now self.new.graph.now resource) }
+        ensures kept { OnOk result (KeepsResource self.old.graph.now.types.kept self.new.graph.now.types.kept resource) }
         ensures id { IfOk result (λ i. i ≡ next_resource self.old.graph.now.types) }
         ensures err { OnErr result (self.new.graph.now ≡ self.old.graph.now) }
         ensures grows { Enlarges self.old.graph.now self.new.graph.now }
@@ -148,6 +157,7 @@ impl<'a> TypesMut<'a> {
     pub fn add_func_type(&mut self, func: FuncType) -> Result<FuncTypeId, AllocError>
         requires { HasChildren self.old.graph.now.types (func_entry func) }
         ensures added { OnOk result (AddsFuncType self.old.graph.now self.new.graph.now func) }
+        ensures kept { OnOk result (KeepsFuncType self.old.graph.now.types.kept self.new.graph.now.types.kept func) }
         ensures id { IfOk result (λ i. i ≡ next_func_type self.old.graph.now.types) }
         ensures err { OnErr result (self.new.graph.now ≡ self.old.graph.now) }
         ensures grows { Enlarges self.old.graph.now self.new.graph.now }
@@ -160,6 +170,7 @@ impl<'a> TypesMut<'a> {
     pub fn add_interface(&mut self, interface: Interface) -> Result<InterfaceId, AllocError>
         requires { HasChildren self.old.graph.now.types (interface_entry interface) }
         ensures added { OnOk result (AddsInterface self.old.graph.now self.new.graph.now interface) }
+        ensures kept { OnOk result (KeepsInterface self.old.graph.now.types.kept self.new.graph.now.types.kept interface) }
         ensures id { IfOk result (λ i. i ≡ next_interface self.old.graph.now.types) }
         ensures err { OnErr result (self.new.graph.now ≡ self.old.graph.now) }
         ensures grows { Enlarges self.old.graph.now self.new.graph.now }
@@ -172,6 +183,7 @@ impl<'a> TypesMut<'a> {
     pub fn add_world(&mut self, world: World) -> Result<WorldId, AllocError>
         requires { HasChildren self.old.graph.now.types (world_entry world) }
         ensures added { OnOk result (AddsWorld self.old.graph.now self.new.graph.now world) }
+        ensures kept { OnOk result (KeepsWorld self.old.graph.now.types.kept self.new.graph.now.types.kept world) }
         ensures id { IfOk result (λ i. i ≡ next_world self.old.graph.now.types) }
         ensures err { OnErr result (self.new.graph.now ≡ self.old.graph.now) }
         ensures grows { Enlarges self.old.graph.now self.new.graph.now }
@@ -183,6 +195,7 @@ impl<'a> TypesMut<'a> {
     /// Adds a module type.
     pub fn add_module_type(&mut self, ty: ModuleType) -> Result<ModuleTypeId, AllocError>
         ensures added { OnOk result (AddsModuleType self.old.graph.now self.new.graph.now ty) }
+        ensures kept { OnOk result (KeepsModuleType self.old.graph.now.types.kept self.new.graph.now.types.kept ty) }
         ensures id { IfOk result (λ i. i ≡ next_module_type self.old.graph.now.types) }
         ensures err { OnErr result (self.new.graph.now ≡ self.old.graph.now) }
         ensures grows { Enlarges self.old.graph.now self.new.graph.now }

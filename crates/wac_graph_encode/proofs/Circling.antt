@@ -25,7 +25,7 @@ use Rattle.wac_graph_asks.specs.Graphs.{composition_of}
 use Rattle.wac_graph_asks.specs.Outers.{AreOuters}
 use Rattle.wac_graph_asks.proofs.Asking.{world_kept}
 use Rattle.wac_graph_asks.proofs.Lasting.{outers_stay}
-use Rattle.wac_graph_causes.specs.declared.errors.Unwritten.{Unwritten}
+use Rattle.wac_graph_causes.specs.declared.error.Unwritten.{Unwritten}
 use Rattle.wac_graph_causes.specs.Circling.{CirclesPass, PackagesStand, TellsCircle, first_late, forms_in, held_circle, packages_in, imported_packages}
 use Rattle.wac_graph_causes.specs.Unwritable.{TellsUnwritable, dependency_at, package_world}
 use Rattle.wac_graph_causes.proofs.Dependencies.{packages_listed}

@@ -30,7 +30,7 @@ use Rattle.wac_graph_asks.specs.Outers.{AnswersOuters, HasImportsAlone}
 use Rattle.wac_graph_asks.proofs.Asking.{copy_kept, held_kept, world_kept}
 use Rattle.wac_graph_asks.proofs.ByNode.{entry_there}
 use Rattle.wac_graph_asks.proofs.Lasting.{outers_stay}
-use Rattle.wac_graph_encode.specs.declared.fault.BytesError.{BytesError}
+use Rattle.wac_graph_encode.specs.declared.error.BytesError.{BytesError}
 use Rattle.wac_graph_causes.specs.Alike.{AreHeld}
 use Rattle.wac_graph_causes.specs.Unwritable.{IsWhole}
 use Rattle.wac_graph_encode.specs.declared.options.EncodeOptions.{EncodeOptions}

@@ -6,22 +6,23 @@ use Rattle.wac_composition.specs.Asks.{asks_of}
 use Rattle.wac_composition.specs.OuterImports.{outer_imports}
 use Rattle.std.specs.Option.{option_or}
 use Rattle.wac_composition.specs.Conflicts.{Cause, Unwritable, merge_conflict, unwritable_cause}
-use Rattle.wac_graph_asks.specs.declared.faults.OuterError.{OuterError}
+use Rattle.wac_graph_asks.specs.declared.error.OuterError.{OuterError}
 use Rattle.wac_graph_asks.specs.Graphs.{composition_of}
 use Rattle.wac_graph_asks.specs.Takes.{IfConflict, TellsConflictIn, conflict_in}
-use Rattle.wac_graph_causes.specs.declared.errors.Refusal.{Refusal}
-use Rattle.wac_graph_causes.specs.declared.errors.Unwritten.{Unwritten}
+use Rattle.wac_graph_causes.specs.declared.error.Refusal.{Refusal}
+use Rattle.wac_graph_causes.specs.declared.error.Unwritten.{Unwritten}
 use Rattle.wac_graph_causes.specs.Refusals.{outer_refusal, unwritten_refusal}
 use Rattle.wac_graph_causes.specs.Implicit.{implicit_cause, IsImplicit}
 use Rattle.wac_graph_causes.specs.Alike.{IsAlike}
 use Rattle.wac_graph_causes.specs.Unwritable.{TellsUnwritable, TellsUnwritten, alias_cause, unwritten_cause}
-use Rattle.wac_graph_encode.specs.declared.fault.BytesError.{BytesError}
+use Rattle.wac_graph_encode.specs.declared.error.BytesError.{BytesError}
 use Rattle.wac_graph_encode.specs.declared.options.EncodeOptions.{EncodeOptions}
 use Rattle.wac_graph_encode.specs.Faults.{bytes_refusal}
 use Rattle.wac_graph_encode.specs.Finished.{IfOfSize}
 use Rattle.wac_graph_encode.specs.Refused.{cause_in, HasLargeProcessor, HasNoCause, HasNoneAlike, HasNoneClashing, HasNoneFound, HasNoneUnwritten, IsFree, IsPastSize, IsRefusedFor, waiting_cause}
 
 pub if_of_size : {P Q : Type 0} (f : BytesError) → (P → Q) → IfOfSize P f → IfOfSize Q f
+if_of_size BytesError.TypeNotWritten more h = tt
 if_of_size BytesError.TooLarge more h = more h
 if_of_size BytesError.Memory more h = tt
 
@@ -74,6 +75,7 @@ module _ (options : EncodeOptions) (g : Graph) where
   implicit_refused (Refusal.ExplicitImportConflict n first second) h = absurd h
   implicit_refused (Refusal.ImportTypeMergeConflict n first second source) h = absurd h
   implicit_refused (Refusal.TypeCannotBeWritten n) h = absurd h
+  implicit_refused Refusal.TypeNotWritten h = absurd h
   implicit_refused Refusal.TooLarge h = absurd h
   implicit_refused (Refusal.ValidationFailure fault) h = absurd h
   implicit_refused Refusal.Memory h = tt
@@ -98,10 +100,12 @@ module _ (options : EncodeOptions) (g : Graph) where
   of_processor f h = if_of_size f inl h
 
   pub of_size : (f : BytesError) → (f ≡ BytesError.TooLarge → IsPastSize options g) → IfOfSize (HasLargeProcessor options ⊎ IsPastSize options g) f
+  of_size BytesError.TypeNotWritten past = tt
   of_size BytesError.TooLarge past = inr (past refl)
   of_size BytesError.Memory past = tt
 
   pub size_refused : (f : BytesError) → HasNoCause options g → IfOfSize (HasLargeProcessor options ⊎ IsPastSize options g) f → IsRefusedFor options g (bytes_refusal f)
+  size_refused BytesError.TypeNotWritten none h = none
   size_refused BytesError.TooLarge none h = (none, h)
   size_refused BytesError.Memory none h = tt
 
@@ -110,6 +114,7 @@ module _ (options : EncodeOptions) (g : Graph) where
   alike_refused (Refusal.ExplicitImportConflict n first second) none h = absurd h
   alike_refused (Refusal.ImportTypeMergeConflict n first second source) none h = absurd h
   alike_refused (Refusal.TypeCannotBeWritten n) none h = absurd h
+  alike_refused Refusal.TypeNotWritten none h = absurd h
   alike_refused Refusal.TooLarge none h = absurd h
   alike_refused (Refusal.ValidationFailure fault) none h = (none, h)
   alike_refused Refusal.Memory none h = tt

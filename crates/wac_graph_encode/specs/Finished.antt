@@ -22,9 +22,9 @@ use Rattle.wac_graph_asks.specs.Graphs.{composition_of}
 use Rattle.wac_graph_asks.specs.Asked.{package_ids, with_ids, placed_in}
 use Rattle.wac_graph_asks.specs.Outers.{IsOuters}
 use Rattle.wac_graph_asks.specs.Wirings.{IsGraphWiring, asked_trees}
-use Rattle.wac_graph_causes.specs.declared.errors.Refusal.{Refusal}
+use Rattle.wac_graph_causes.specs.declared.error.Refusal.{Refusal}
 use Rattle.wac_graph_causes.specs.Unwritable.{alias_cause}
-use Rattle.wac_graph_encode.specs.declared.fault.BytesError.{BytesError}
+use Rattle.wac_graph_encode.specs.declared.error.BytesError.{BytesError}
 use Rattle.wac_graph_encode.specs.declared.options.EncodeOptions.{EncodeOptions}
 use Rattle.wac_graph_encode.specs.declared.instances.Wired.{Wired}
 use Rattle.wac_graph_encode.specs.declared.root.Writing.{Writing}
@@ -90,6 +90,7 @@ NestsWired x old r = IsBare old.root → NestsSo x.options.now.define_components
 
 -- where it is for size, this holds
 abbrev pub IfOfSize : Type 0 → BytesError → Type 0
+IfOfSize P BytesError.TypeNotWritten = Unit {0}
 IfOfSize P BytesError.TooLarge = P
 IfOfSize P BytesError.Memory = Unit {0}
 

@@ -8,8 +8,8 @@ use Rattle.wac_composition.specs.Classes.{spelling}
 use Rattle.wac_composition.specs.Conflicts.{Cause, ImplicitImport, ExplicitImport, ImportTypes, Unwritable, circle_cause, first_cause}
 use Rattle.wac_graph_asks.specs.Graphs.{composition_of}
 use Rattle.wac_graph_asks.specs.Takes.{conflict_in, TellsConflictIn}
-use Rattle.wac_graph_causes.specs.declared.errors.EncodeError.{EncodeError}
-use Rattle.wac_graph_causes.specs.declared.errors.Refusal.{Refusal}
+use Rattle.wac_graph_causes.specs.declared.error.EncodeError.{EncodeError}
+use Rattle.wac_graph_causes.specs.declared.error.Refusal.{Refusal}
 use Rattle.wac_graph_causes.specs.Refusals.{refusal_shown}
 use Rattle.wac_graph_causes.specs.Implicit.{IsKeyOf, implicit_cause}
 use Rattle.wac_graph_causes.specs.Alike.{names_told, alike_cause}
@@ -67,8 +67,8 @@ pub record IsPastSize (options : EncodeOptions) (g : Graph) : Type 0 where
 
 -- ---- refusals
 
--- The error tells the first cause, and by its source how imports are apart that do not merge; where none stands, that the
--- component passes 32 bits, or the first names that are alike. Of want of memory nothing is said.
+-- The error tells the first cause, and by its source how imports are apart that do not merge; where none stands, that a type
+-- was not written, that the component passes 32 bits, or the first names that are alike. Of want of memory nothing is said.
 abbrev pub IsErrorFor : EncodeOptions → Graph → EncodeError → Type 0
 IsErrorFor options g (EncodeError.ImplicitImportConflict import instantiation key n) =
     (cause_in options g ≡ Some (ImplicitImport (string_bytes n) import instantiation)) × IsKeyOf g instantiation key
@@ -77,6 +77,7 @@ IsErrorFor options g (EncodeError.ExplicitImportConflict n first second) =
 IsErrorFor options g (EncodeError.ImportTypeMergeConflict n first second source) =
     (cause_in options g ≡ Some (ImportTypes (string_bytes n) first second)) × TellsConflictIn g source
 IsErrorFor options g (EncodeError.TypeCannotBeWritten n) = cause_in options g ≡ Some (Unwritable (string_bytes n))
+IsErrorFor options g EncodeError.TypeNotWritten = HasNoCause options g
 IsErrorFor options g EncodeError.TooLarge = HasNoCause options g × (HasLargeProcessor options ⊎ IsPastSize options g)
 IsErrorFor options g (EncodeError.ValidationFailure fault) =
     HasNoCause options g × (alike_cause options.define_components options.validate g ≡ Some (names_told fault))

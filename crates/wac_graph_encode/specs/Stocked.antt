@@ -9,7 +9,7 @@ use Rattle.wac_types_base.specs.Stated.{Stated, IsValueType, kind_of, untyped, s
 use Rattle.wac_types_base.specs.Tree.{tree}
 use Rattle.wac_composition.specs.Writable.{Holder, is_fresh}
 use Rattle.wac_composition.specs.NotWritten.{IsGiven, CannotBeWritten}
-use Rattle.wac_graph_scopes.specs.declared.fault.WriteError.{WriteError}
+use Rattle.wac_graph_scopes.specs.declared.error.WriteError.{WriteError}
 use Rattle.wac_graph_scopes.specs.declared.scope.TypeScope.{TypeScope}
 use Rattle.wac_graph_scopes.specs.declared.items.ItemScope.{ItemScope}
 use Rattle.wac_graph_scopes.specs.Known.{HasTree}

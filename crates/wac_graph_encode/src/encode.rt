@@ -20,7 +20,7 @@ ghost use Rattle.wac_graph_encode.specs.Finished.{IfOfSize, UnfitAsked, UnfitWir
 ghost use Rattle.wac_graph_encode.specs.Finished.{AreSpelled, HasAllOf, IsPrepared, IsThere, MeansAsked, MeansImported, MeansNested, MeansWired, NestsSo, NestsWired};
 ghost use Rattle.wac_graph_encode.specs.Finished.{PreparedHands, PreparedImports, PreparedMeans, PreparedWaits, RefusesPrepared};
 
-use crate::fault::BytesError;
+use crate::error::BytesError;
 use crate::forms::written_definitions;
 use crate::instances::Wired;
 use crate::options::{EncodeOptions, Encoded};
@@ -34,7 +34,7 @@ use wac_graph_bytes::{
     Entry, SizeError, SortNames, push_component, push_debug_names, push_producers,
 };
 use wac_graph_causes::circles::check_circles;
-use wac_graph_causes::errors::{EncodeError, Refusal, error_of};
+use wac_graph_causes::error::{EncodeError, Refusal, error_of};
 use wac_graph_causes::implicit::check_implicit;
 use wac_graph_causes::names::check_names;
 use wac_graph_causes::writable::check_writable;

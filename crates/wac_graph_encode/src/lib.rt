@@ -4,8 +4,8 @@
 mod copying;
 mod declarations;
 pub mod encode;
+mod error;
 mod exports;
-mod fault;
 mod forms;
 mod instances;
 mod labels;

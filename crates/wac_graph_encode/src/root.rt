@@ -12,7 +12,6 @@ ghost use Rattle.wac_graph_bytes.specs.Views.{view};
 ghost use Rattle.wac_graph_bytes.specs.Typing.{Scope, Worlds};
 ghost use Rattle.wac_graph_scopes.specs.Scopes.{AreKnown};
 ghost use Rattle.wac_graph_scopes.specs.Items.{HasEntry};
-ghost use Rattle.wac_graph_scopes.specs.Imports.{WritesInOrder};
 ghost use Rattle.wac_graph_encode.specs.Standing.{counted, CountsNext};
 ghost use Rattle.wac_graph_encode.specs.Writing.{AddsEntry, AddsIndex, AddsInstance};
 ghost use Rattle.wac_graph_encode.specs.Rooting.{IsNewScope, ReadsAtRoot, TakesScope, WritesItem, WritesOuters, WritesOwn, counter};
@@ -31,11 +30,11 @@ use wac_graph_asks::nodes::package_at;
 use wac_graph_bytes::{Alias, Description, Entry, NamedIndex, Sort};
 use wac_graph_causes::names::dependency_name;
 use wac_graph_core::{CompositionGraph, NodeId, PackageId};
-use wac_graph_scopes::fault::WriteError;
+use wac_graph_scopes::error::WriteError;
 use wac_graph_scopes::imports::{ImportScope, Importing, SortIndex};
 use wac_graph_scopes::items::ItemScope;
 use wac_graph_scopes::scope::KnownTypes;
-use wac_graph_scopes::worlds::describe_package;
+use wac_graph_scopes::worlds::{describe_package, write_imports};
 use wac_types_base::{DefinedTypeId, ItemKind, NamedMap, Text, Type, Types, ValueType, WorldId};
 use wac_types_parts::parts::Item;
 
@@ -86,21 +85,6 @@ pub(crate) fn next_index(index: u64) -> u64
     index.saturating_add(1)
 }
 
-/// Writes the outer imports at places.
-fn write_in_order(
-    alloc: Global,
-    all: Importing<'_>,
-    scope: &mut ImportScope,
-    order: &[usize],
-) -> Result<(), WriteError>
-    ensures { WritesInOrder all.entry order.now scope.old scope.new result }
-{
-    for at in order {
-        scope.write_import(alloc, all, *at)?;
-    }
-    Ok(())
-}
-
 /// Writes the outer imports.
 fn write_outers(
     alloc: Global,
@@ -111,8 +95,8 @@ fn write_outers(
 {
     scope.begin(alloc, all)?;
     let order = scope.order(alloc, all)?;
-    write_in_order(alloc, all, scope, order.sources.as_slice())?;
-    write_in_order(alloc, all, scope, order.others.as_slice())
+    write_imports(alloc, all, scope, order.sources.as_slice())?;
+    write_imports(alloc, all, scope, order.others.as_slice())
 }
 
 /// Writes the type of an item that stands at the root.

@@ -17,7 +17,7 @@ use Rattle.wac_graph_core.specs.Graph.{Graph, node_at, package_of, item_export, 
 use Rattle.wac_graph_core.specs.Steps.{Instantiates}
 use Rattle.wac_graph_core.proofs.NodeMap.{get-insert_same}
 use Rattle.wac_graph_plug.specs.declared.matching.Match.{Match}
-use Rattle.wac_graph_plug.specs.declared.errors.PlugError.{PlugError}
+use Rattle.wac_graph_plug.specs.declared.error.PlugError.{PlugError}
 use Rattle.wac_graph_plug.specs.Plugging.{AreMatchesOf, AreMatches, no_plugs}
 use Rattle.wac_graph_plug.specs.Steps.{Grown, HasExport, Passes, PassesAll, passed_next, plugged_none, plugged_next, ExportsOne, ExportsAll, exported_next}
 use Rattle.wac_graph_plug.specs.Stops.{part_in, world_of, has_match, any_match, AreMatchesIn, PlugsMatches, StopsMatches, PlugsAll, StopsPassing}

@@ -10,15 +10,15 @@ use Rattle.wac_types_base.proofs.Looked.{take-one_more, among-get}
 use Rattle.wac_types_names.specs.Packaged.{Packaged}
 use Rattle.wac_graph_core.specs.declared.ids.PackageId.{PackageId}
 use Rattle.wac_graph_core.specs.declared.edge.Edge.{Edge}
-use Rattle.wac_graph_core.specs.declared.errors.InstantiationArgumentError.{InstantiationArgumentError}
+use Rattle.wac_graph_core.specs.declared.error.InstantiationArgumentError.{InstantiationArgumentError}
 use Rattle.wac_graph_core.specs.Nodes.{Role, plain_node}
 use Rattle.wac_graph_core.specs.Edges.{alias_edge, argument_edge}
 use Rattle.wac_graph_core.specs.Graph.{Graph, node_at, package_of, package_made, IsGraph}
 use Rattle.wac_graph_core.specs.Steps.{Instantiates}
 use Rattle.wac_graph_core.proofs.NodeMap.{get-insert_same}
 use Rattle.wac_graph_plug.specs.declared.matching.Match.{Match}
-use Rattle.wac_graph_plug.specs.declared.errors.PlugError.{PlugError}
-use Rattle.wac_graph_plug.specs.declared.errors.PlugFault.{PlugFault}
+use Rattle.wac_graph_plug.specs.declared.error.PlugError.{PlugError}
+use Rattle.wac_graph_plug.specs.declared.error.PlugFault.{PlugFault}
 use Rattle.wac_graph_plug.specs.Plugging.{AreMatchesOf, no_exports, matched, passed, AreMatches, no_plugs, next_plug, imports_in, IsTwice}
 use Rattle.wac_graph_plug.specs.Steps.{Grown, PassesAll, passed_none, passed_next, PlugsOne, PlugsEach, plugged_none, plugged_next}
 use Rattle.wac_graph_plug.specs.Stops.{world_of, worlds_of, part_in, StopsPlugging, MatchedTwice, PlugsNone, NoneMatches, IsPassedTwice}

@@ -5,8 +5,8 @@ use Rattle.wac_types_base.specs.Collection.{IsAcyclic}
 use Rattle.wac_graph_core.specs.declared.ids.PackageId.{PackageId}
 use Rattle.wac_graph_core.specs.Graph.{Graph, IsGraph}
 use Rattle.wac_graph_core.specs.Steps.{Instantiates}
-use Rattle.wac_graph_plug.specs.declared.errors.PlugError.{PlugError}
-use Rattle.wac_graph_plug.specs.declared.errors.PlugFault.{PlugFault}
+use Rattle.wac_graph_plug.specs.declared.error.PlugError.{PlugError}
+use Rattle.wac_graph_plug.specs.declared.error.PlugFault.{PlugFault}
 use Rattle.wac_graph_plug.specs.Steps.{ExportsAll}
 use Rattle.wac_graph_plug.specs.Stops.{PlugsAll, StopsEach, StopsExporting, socket_exports, Plugs, PlugsNone, nothing_made, between_plugs, within_plug, within_exports, PlugRefused, PlugCause}
 use Rattle.wac_graph_plug.proofs.Causes.{argument_cause}

@@ -7,8 +7,8 @@ use Rattle.wac_types_base.specs.Graph.{Among}
 use Rattle.wac_types_base.specs.Stated.{Stated, stated_in, stated_of, imports_of, exports_of}
 use Rattle.wac_types_names.specs.Packaged.{Packaged}
 use Rattle.wac_graph_core.specs.declared.ids.PackageId.{PackageId}
-use Rattle.wac_graph_core.specs.declared.errors.InstantiationArgumentError.{InstantiationArgumentError}
-use Rattle.wac_graph_core.specs.declared.errors.ExportError.{ExportError}
+use Rattle.wac_graph_core.specs.declared.error.InstantiationArgumentError.{InstantiationArgumentError}
+use Rattle.wac_graph_core.specs.declared.error.ExportError.{ExportError}
 use Rattle.wac_graph_core.specs.Graph.{Graph, package_of}
 use Rattle.wac_types_base.specs.Tree.{Tree}
 use Rattle.wac_graph_bytes.specs.Wirings.{Wiring, Same}
@@ -17,8 +17,8 @@ use Rattle.wac_graph_core.specs.Steps.{Instantiates, Aliases}
 use Rattle.wac_graph_core.specs.Refusals.{ArgumentRefused}
 use Rattle.wac_graph_core.specs.Exporting.{ExportRefused}
 use Rattle.wac_graph_plug.specs.declared.matching.Match.{Match}
-use Rattle.wac_graph_plug.specs.declared.errors.PlugError.{PlugError}
-use Rattle.wac_graph_plug.specs.declared.errors.PlugFault.{PlugFault}
+use Rattle.wac_graph_plug.specs.declared.error.PlugError.{PlugError}
+use Rattle.wac_graph_plug.specs.declared.error.PlugFault.{PlugFault}
 use Rattle.wac_graph_plug.specs.Plugging.{AreMatches, AreMatchesOf, Conflict, imports_in}
 use Rattle.wac_graph_plug.specs.Steps.{PassesAll, PlugsOne, PlugsEach, ExportsAll}
 use Rattle.wac_graph_plug.specs.Wired.{Part, plugged}

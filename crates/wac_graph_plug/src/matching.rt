@@ -1,17 +1,15 @@
 //! Which exports of a plug are for which imports of a socket.
 
 ghost use Rattle.std.specs.Prelude.{◌≡◌, IfOk, OnOk, IfSome, IfNone};
-ghost use Rattle.std.specs.Bool.{Decides};
 ghost use Rattle.wac_types_base.specs.Collection.{Stands};
 ghost use Rattle.wac_types_base.specs.Entries.{Name, AreDistinct, names_of, with_values};
 ghost use Rattle.wac_types_base.specs.Stated.{stated_of, exports_of, stated_world};
-ghost use Rattle.wac_types_fit.specs.Trees.{Fit};
 ghost use Rattle.wac_graph_plug.specs.Plugging.{Finds, AreWorldMatches};
 ghost use Rattle.wac_graph_plug.specs.Lookups.{IsNext, NoneNear, IsMatchOf, ItemsStandIn, with_match};
 
 use std::alloc::{AllocError, Global};
 use wac_types_base::{ItemKind, NamedMap, Text, Types, WorldId};
-use wac_types_fit::{SubtypeChecker, SubtypeError, new_cache};
+use wac_types_fit::is_subtype;
 use wac_types_names::are_semver_compatible;
 
 /// An export of a plug, and the import of the socket that it is for.
@@ -30,21 +28,6 @@ impl Match {
             export: self.export.copy()?,
             import: self.import.copy()?,
         })
-    }
-}
-
-/// Whether one kind may be given where another is asked.
-fn fits(alloc: Global, types: &Types, given: ItemKind, asked: ItemKind) -> Result<bool, AllocError>
-    requires given { Stands types.now given }
-    requires asked { Stands types.now asked }
-    ensures { IfOk result (λ yes. Decides yes (Fit types.now given types.now asked)) }
-{
-    let mut cache = new_cache(alloc);
-    let mut checker = SubtypeChecker::new(alloc, &mut cache);
-    match checker.is_subtype(given, types, asked, types) {
-        Ok(()) => Ok(true),
-        Err(SubtypeError::Memory) => Err(AllocError),
-        Err(SubtypeError::Mismatch { .. }) => Ok(false),
     }
 }
 
@@ -113,7 +96,7 @@ fn matched(
         Some(asked) => *asked,
         None => return Ok(None),
     };
-    let yes = fits(alloc, types, given, asked)?;
+    let yes = is_subtype(alloc, types, given, asked)?;
     if !yes {
         return Ok(None);
     }

@@ -12,7 +12,7 @@ ghost use Rattle.wac_graph_plug.specs.declared.matching.Match.{Match as MatchDat
 ghost use Rattle.wac_graph_plug.specs.Steps.{Grown, HasNoNodes, HasExport, Passes, PassesAll, ExportsOne, ExportsAll};
 ghost use Rattle.wac_graph_plug.specs.Stops.{StopsAt, StopsPassing, StopsExport, StopsExporting, StopsPlug, has_match, PlugsMatches, PlugsAll, StopsEach, Plugs, PlugRefused, PlugCause, AreMatched, IsPlugged};
 
-use crate::errors::{PlugError, PlugFault};
+use crate::error::{PlugError, PlugFault};
 use crate::matching::{Match, matches_of};
 use std::alloc::{AllocError, Global};
 use wac_graph_core::{

@@ -15,7 +15,7 @@ use Rattle.wac_graph_bytes.specs.declared.module.CoreDescription.TheVariants as 
 use Rattle.wac_graph_bytes.specs.declared.module.CoreReference.{CoreReference}
 use Rattle.wac_graph_bytes.specs.declared.module.CoreValue.{CoreValue}
 use Rattle.wac_graph_bytes.specs.Typing.{core_reference_type, core_type}
-use Rattle.wac_graph_scopes.specs.declared.fault.WriteError.{WriteError}
+use Rattle.wac_graph_scopes.specs.declared.error.WriteError.{WriteError}
 use Rattle.wac_graph_scopes.specs.CoreItems.{IsItem, IsUnspoken, HasUnspoken, CoreFails, OneFails, IsPlainItem, TypesRefused, CoresRefused, ModuleFails, ModuleRefused}
 
 pub never_table : (e : CoreRefType) (least : ℕ) (most : Option ℕ) (wide shared : Bool) → (shared ≡ true) ⊎ ((r : CoreReference) → core_reference_type r ≡ e → ⊥) → (d : CoreDescription) → IsItem d (extern.Table e least most wide shared) → ⊥

@@ -17,9 +17,13 @@ pub mod ItemLaws
 pub mod UsedNames
 pub mod UsedLaws
 pub mod StockLaws
+pub mod BehindLaws
+pub mod PuttingLaws
 pub mod OrderLaws
+pub mod UsePlaceLaws
 pub mod RootLaws
 pub mod FoundLaws
 pub mod WritingLaws
 pub mod ImportLaws
+pub mod PreparedLaws
 pub mod ImportRefusals

@@ -23,7 +23,7 @@ use Rattle.wac_types_base.proofs.Telling.{value_source}
 use Rattle.wac_types_base.proofs.Looked.{among-get}
 use Rattle.wac_types_fit.specs.Trees.{tree_in}
 use Rattle.wac_types_fit.specs.Checking.{value_in, HoldsValues}
-use Rattle.wac_graph_scopes.specs.declared.fault.WriteError.{WriteError}
+use Rattle.wac_graph_scopes.specs.declared.error.WriteError.{WriteError}
 use Rattle.wac_graph_scopes.specs.declared.scope.TypeScope.{TypeScope}
 use Rattle.wac_graph_scopes.specs.Known.{KeepsKnown}
 use Rattle.wac_graph_scopes.specs.Scopes.{IsScopeOf, KeepsScope}

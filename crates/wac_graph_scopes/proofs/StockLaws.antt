@@ -31,7 +31,7 @@ use Rattle.wac_types_parts.specs.Parts.{interface_in, exports_of, uses_of, IsUse
 use Rattle.wac_types_parts.proofs.PartLaws.{exports_there, exports_missing, export_stands}
 use Rattle.wac_types_parts.proofs.PartsStated.{stands_or_not}
 use Rattle.wac_types_parts.proofs.Resources.{fresh_is}
-use Rattle.wac_graph_scopes.specs.declared.fault.WriteError.{WriteError}
+use Rattle.wac_graph_scopes.specs.declared.error.WriteError.{WriteError}
 use Rattle.wac_graph_scopes.specs.declared.scope.TypeScope.{TypeScope}
 use Rattle.wac_graph_scopes.specs.declared.items.ItemScope.{ItemScope}
 use Rattle.wac_graph_scopes.specs.Known.{type_tree, HasTree, KeepsKnown}

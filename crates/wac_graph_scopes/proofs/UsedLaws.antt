@@ -1,28 +1,25 @@
 -- Type items by their indexes.
-use Rattle.std.proofs.Common.{◌≡◌, ℕ, zero, suc, ◌<◌, List, ◌∷◌, Bool, true, false, Option, Some, None, refl, sym, ap, ◌∙◌, arith, subst}
-use Rattle.std.specs.Prelude.{slice_get}
+use Rattle.std.proofs.Common.{◌≡◌, ℕ, List, ◌∷◌, Bool, true, false, Some, refl, sym, ap, ◌∙◌, subst}
 use Rattle.wac_types_base.specs.declared.ids.ResourceId.{ResourceId}
 use Rattle.wac_types_base.specs.declared.ids.DefinedTypeId.{DefinedTypeId}
 use Rattle.wac_types_base.specs.declared.ids.FuncTypeId.{FuncTypeId}
 use Rattle.wac_types_base.specs.declared.item.ValueType.{ValueType}
 use Rattle.wac_types_base.specs.declared.item.«Type».{«Type» as TypeKind}
 use Rattle.wac_types_base.specs.declared.item.ItemKind.{ItemKind}
-use Rattle.wac_types_base.specs.declared.defined.Resource.{Resource}
-use Rattle.wac_types_base.specs.declared.defined.ResourceAlias.{ResourceAlias}
 use Rattle.wac_types_base.specs.Record.{Collection}
 use Rattle.wac_types_base.specs.Entries.{Name}
-use Rattle.wac_types_base.specs.Collection.{Stands, IsAcyclic, size_of, resource}
+use Rattle.wac_types_base.specs.Collection.{Stands, IsAcyclic, resource}
 use Rattle.wac_types_base.specs.Stated.{Kind, IsResource}
 use Rattle.wac_types_base.specs.Fits.{Fits}
 use Rattle.wac_types_fit.proofs.TreeLaws.{Fits-refl}
 use Rattle.wac_types_base.specs.Tree.{Tree, rigid, instance, component, core_module, handle_own, handle_borrow, type_item, end}
 use Rattle.wac_types_base.specs.Resolving.{IsNoAlias}
-use Rattle.wac_types_base.proofs.Standing.{resource_found, defined_found}
+use Rattle.wac_types_base.proofs.Standing.{defined_found}
 use Rattle.wac_types_base.proofs.Slots.{stands_typed_value}
-use Rattle.wac_types_base.proofs.Telling.{item_kind, resource_source}
+use Rattle.wac_types_base.proofs.Telling.{item_kind}
 use Rattle.wac_types_fit.specs.Trees.{tree_in, Fit}
 use Rattle.wac_types_fit.specs.Checking.{IsFlat}
-use Rattle.wac_types_fit.proofs.Unfolded.{root_tree, source_tree, type_value, primitive_tree, own_tree, borrow_tree}
+use Rattle.wac_types_fit.proofs.Unfolded.{type_value, primitive_tree, own_tree, borrow_tree}
 use Rattle.wac_types_fit.proofs.ItemKinds.{resource_is, tree_kind, is_type, fits_flat, flat_is, kind_is, flat_fits}
 use Rattle.wac_types_base.specs.declared.item.PrimitiveType.{PrimitiveType}
 use Rattle.wac_graph_bytes.specs.declared.value.Sort.TheVariants as sort

@@ -12,7 +12,7 @@ use Rattle.wac_graph_bytes.specs.declared.module.CoreValue.{CoreValue}
 use Rattle.wac_graph_bytes.specs.Entries.{CoreDeclaration}
 use Rattle.wac_graph_bytes.specs.Typing.{core_type, core_item, module_by}
 use Rattle.wac_graph_bytes.specs.Views.{module_view}
-use Rattle.wac_graph_scopes.specs.declared.fault.WriteError.{WriteError}
+use Rattle.wac_graph_scopes.specs.declared.error.WriteError.{WriteError}
 use Rattle.wac_graph_scopes.specs.declared.core_items.ModuleScope.{ModuleScope}
 
 -- the declarations state these signatures, imports and exports, and the signatures are counted; each has a declaration

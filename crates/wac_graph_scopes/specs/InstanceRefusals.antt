@@ -14,7 +14,7 @@ use Rattle.wac_types_fit.specs.Trees.{tree_in}
 use Rattle.wac_types_parts.specs.declared.parts.Use.{Use}
 use Rattle.wac_types_parts.specs.Parts.{interface_in, exports_of, uses_of, IsUseAt, taken_in, IsOfInterface}
 use Rattle.wac_graph_bytes.specs.Typing.{Worlds, Scope, Inside}
-use Rattle.wac_graph_scopes.specs.declared.fault.WriteError.{WriteError}
+use Rattle.wac_graph_scopes.specs.declared.error.WriteError.{WriteError}
 use Rattle.wac_graph_scopes.specs.declared.scope.KnownTypes.{KnownTypes}
 use Rattle.wac_graph_scopes.specs.declared.items.ItemScope.{ItemScope}
 use Rattle.wac_graph_scopes.specs.declared.items.PlacedInterface.{PlacedInterface}

@@ -6,7 +6,7 @@ use Rattle.wac_types_base.specs.declared.item.ItemKind.{ItemKind}
 use Rattle.wac_types_base.specs.declared.item.«Type».{«Type» as TypeKind}
 use Rattle.wac_types_base.specs.Record.{Collection}
 use Rattle.wac_types_base.specs.Parts.{identifier_in}
-use Rattle.wac_graph_scopes.specs.declared.fault.WriteError.{WriteError}
+use Rattle.wac_graph_scopes.specs.declared.error.WriteError.{WriteError}
 use Rattle.wac_graph_scopes.specs.declared.items.ItemScope.{ItemScope}
 use Rattle.wac_types_parts.specs.declared.parts.Use.{Use}
 use Rattle.wac_types_parts.specs.Parts.{interface_in}

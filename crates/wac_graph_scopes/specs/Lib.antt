@@ -10,6 +10,9 @@ pub mod Used
 pub mod Items
 pub mod Stock
 pub mod InstanceRefusals
+pub mod Behind
 pub mod Orders
 pub mod Imports
+pub mod UsePlaces
+pub mod Prepared
 pub mod ImportRefusals

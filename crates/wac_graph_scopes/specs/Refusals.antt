@@ -15,7 +15,7 @@ use Rattle.wac_types_base.specs.Collection.{Stands, slots_of, resource}
 use Rattle.wac_types_base.specs.Resolving.{IsNoAlias}
 use Rattle.wac_types_base.specs.Tree.{rigid, end}
 use Rattle.wac_types_fit.specs.Trees.{tree_in}
-use Rattle.wac_graph_scopes.specs.declared.fault.WriteError.{WriteError}
+use Rattle.wac_graph_scopes.specs.declared.error.WriteError.{WriteError}
 use Rattle.wac_graph_scopes.specs.declared.scope.TypeScope.{TypeScope}
 use Rattle.wac_graph_scopes.specs.declared.lacking.Lacking.{Lacking}
 use Rattle.wac_graph_scopes.specs.Known.{type_tree, HasTree, IsFound}

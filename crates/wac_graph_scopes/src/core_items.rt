@@ -5,13 +5,13 @@ ghost use Rattle.wac_types_base.specs.declared.core_types.CoreExtern.TheVariants
 ghost use Rattle.wac_graph_bytes.specs.declared.module.CoreReference.{CoreReference};
 ghost use Rattle.wac_graph_bytes.specs.Typing.{core_reference_type, core_type, module_tree};
 ghost use Rattle.wac_graph_bytes.specs.Views.{module_view};
-ghost use Rattle.wac_graph_scopes.specs.declared.fault.WriteError.{WriteError};
+ghost use Rattle.wac_graph_scopes.specs.declared.error.WriteError.{WriteError};
 ghost use Rattle.wac_graph_scopes.specs.CoreItems.{IsUnspoken, CoreFails, OneFails, ModuleFails, TypesRefused, PlainRefused, CoresRefused, ModuleRefused, IsPlainItem};
 ghost use Rattle.wac_graph_scopes.specs.CoreItems.{AddsSignature, IsItem, DescribesCore, AddsCores, AddsImport};
 ghost use Rattle.wac_types_base.specs.Entries.{names_of, values_of, AreDistinct};
 ghost use Rattle.wac_types_fit.specs.Checking.{module_tree as tree_of_module};
 
-use crate::fault::WriteError;
+use crate::error::WriteError;
 use crate::scope::next_of;
 use std::alloc::Global;
 use wac_graph_bytes::{

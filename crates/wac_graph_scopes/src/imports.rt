@@ -14,14 +14,17 @@ ghost use Rattle.wac_graph_scopes.specs.Used.{put_used, IsUsedAs};
 ghost use Rattle.wac_types_parts.specs.Parts.{IsUsedKind};
 ghost use Rattle.wac_graph_scopes.specs.Items.{IsItemScope, with_known, Never, Misses, HasNameAt, HasEntry, IsNoResource, DescribesSimply, DescribesEntry, DescribesOwn};
 ghost use Rattle.wac_graph_scopes.specs.Orders.{IsOrder, SourcesFirst};
+ghost use Rattle.wac_graph_scopes.specs.UsePlaces.{SourcesBehind};
+ghost use Rattle.wac_graph_scopes.specs.Prepared.{KeepsUsed, KeepsTaken, StandsNamed, StandsTaken, StandsUsedAt, AllUsedStand, IsPrepared, IsPreparedAt};
 ghost use Rattle.wac_graph_scopes.specs.ItemRefusals.{RefusedTypeApart, RefusedItem, RefusedUse};
 ghost use Rattle.wac_graph_scopes.specs.InstanceRefusals.{LacksIdentifier, UseRefused, LacksIdentifiers, RefusesInstance, RefusesOther};
 ghost use Rattle.wac_graph_scopes.specs.Imports.{all_imports, all_exports, IsUseOf, IsGivenBy, NoneWritten, IsInstanceImport, IsPlaced, GivesTaken, NotGiven, FindsSource, AddsUsed, AliasesUse, KeepsWorld, DescribesImport, DescribesThere, DescribesOther, MayDescribe};
-ghost use Rattle.wac_graph_scopes.specs.ImportRefusals.{IsGivenUnnamed, UsesUnnamed, RefusesImport, RefusesImportAt, RefusesExporting};
+ghost use Rattle.wac_graph_scopes.specs.ImportRefusals.{IsGivenUnnamed, UsesUnnamed, RefusesImport, RefusesImportPlaced, RefusesExporting};
 ghost use Rattle.wac_graph_scopes.specs.Imports.{called_places, own_places, import_places, FindsFirst, IsImportedAs, IsFoundFor, FindsImported};
 ghost use Rattle.wac_graph_scopes.specs.Imports.{ImportsDescribed, ImportsAt, WritesImport, WritesInOrder, ExportsIndexed, BeginsWorld};
 
-use crate::fault::WriteError;
+use crate::error::WriteError;
+use crate::import_places::{add_called, add_empty, add_places};
 use crate::items::{
     Around, ItemScope, add_name, describe, export_item, export_resource, exports_taken, find_used,
     push_func_type,
@@ -126,64 +129,6 @@ pub fn sort_of(description: Description) -> Sort
         Description::Component(_) => Sort::Component,
         Description::Instance(_) => Sort::Instance,
     }
-}
-
-/// Adds a place under a name, unless one stands there.
-fn add_place(
-    alloc: Global,
-    found: &mut NamedMap<usize>,
-    name: &str,
-    at: usize,
-) -> Result<(), AllocError>
-    ensures { OnOk result (FindsFirst found.new (found.old ++ (name.now, at) ∷ [])) }
-{
-    if !found.contains(name) {
-        let name = String::from_str(alloc, name)?;
-        found.push(name, at)?;
-    }
-    Ok(())
-}
-
-/// Adds the places of the imports under their own names.
-fn add_places(
-    alloc: Global,
-    all: Importing<'_>,
-    found: &mut NamedMap<usize>,
-) -> Result<(), AllocError>
-    ensures { OnOk result (FindsFirst found.new (found.old ++ own_places 0 (names_of (all_imports all.entry)))) }
-{
-    for at in 0..import_count(all.types, all.world) {
-        if let Some(import) = import_at(all.types, all.world, at) {
-            add_place(alloc, found, import.name, at)?;
-        }
-    }
-    Ok(())
-}
-
-/// Adds the places of the imports under the names under which they are asked for.
-fn add_called(
-    alloc: Global,
-    all: Importing<'_>,
-    found: &mut NamedMap<usize>,
-) -> Result<(), AllocError>
-    ensures { OnOk result (FindsFirst found.new (found.old ++ called_places all.entry.called.now)) }
-{
-    for called in all.called {
-        add_place(alloc, found, called.name.as_str(), called.at)?;
-    }
-    Ok(())
-}
-
-/// Adds places at which no import is written yet.
-fn add_empty(count: usize, places: &mut Vec<Option<SortIndex>>) -> Result<(), AllocError>
-    requires { places.old.items ≡ [] }
-    ensures none { OnOk result (NoneWritten places.new.items) }
-    ensures many { OnOk result (length places.new.items ≡ count) }
-{
-    for _at in 0..count {
-        places.push(None)?;
-    }
-    Ok(())
 }
 
 /// The interface of the instance that is imported at a place.
@@ -347,6 +292,7 @@ impl ImportScope {
     pub fn order(&self, alloc: Global, all: Importing<'_>) -> Result<ImportOrder, AllocError>
         ensures order { IfOk result (λ o. IsOrder (length (all_imports all.entry)) o.sources.items o.others.items) }
         ensures sources { IfOk result (λ o. SourcesFirst all.entry o.sources.items) }
+        ensures behind { IfOk result (λ o. SourcesBehind all.entry self.now.found (o.sources.items ++ o.others.items)) }
         ensures distinct { AreDistinct (names_of (all_imports all.entry)) }
     {
         order_of(alloc, all, &self.found)
@@ -410,6 +356,8 @@ impl ImportScope {
         ensures aliases { AliasesUse all.entry item self.old self.new result }
         ensures none { Misses all.entry.types.now item (IsFoundFor all.entry self.old used.entry item) result }
         ensures refused { IfErr result (RefusedUse all.entry.types.now used.entry) }
+        ensures keeps { KeepsTaken all.entry item self.old self.new result }
+        ensures stands { StandsTaken all.entry used.entry item self.old self.new result }
         ensures places { self.new.places ≡ self.old.places }
         ensures found { self.new.found ≡ self.old.found }
     {
@@ -438,6 +386,8 @@ impl ImportScope {
         ensures aliases { AliasesUse all.entry item self.old self.new result }
         ensures none { Misses all.entry.types.now item
             (IsImportedAs all.entry self.old name.entry.identifier.now name.entry.name.now item) result }
+        ensures keeps { KeepsTaken all.entry item self.old self.new result }
+        ensures stands { StandsNamed all.entry name.entry.identifier.now name.entry.name.now item self.new result }
         ensures places { self.new.places ≡ self.old.places }
         ensures found { self.new.found ≡ self.old.found }
         ensures refused { IfErr result (λ e. e ≡ WriteError.Memory) }
@@ -497,6 +447,8 @@ impl ImportScope {
         at: usize,
     ) -> Result<(), WriteError>
         ensures keeps { KeepsWorld all.entry self.old self.new result }
+        ensures kept { OnOk result (KeepsUsed all.entry self.old self.new) }
+        ensures stands { OnOk result (StandsUsedAt all.entry self.new id at) }
         ensures refused { IfErr result (λ e. e ≡ WriteError.Unwritable → UseRefused all.entry.types.now id) }
     {
         let Some(used) = use_at(all.types, id, at) else {
@@ -517,6 +469,8 @@ impl ImportScope {
         id: InterfaceId,
     ) -> Result<(), WriteError>
         ensures keeps { KeepsWorld all.entry self.old self.new result }
+        ensures kept { OnOk result (KeepsUsed all.entry self.old self.new) }
+        ensures stands { OnOk result ((at : ℕ) → StandsUsedAt all.entry self.new id at) }
         ensures refused { IfErr result (λ e. e ≡ WriteError.Unwritable → UseRefused all.entry.types.now id) }
     {
         for at in 0..use_count(all.types, id) {
@@ -534,6 +488,8 @@ impl ImportScope {
         kind: ItemKind,
     ) -> Result<(), WriteError>
         ensures keeps { KeepsWorld all.entry self.old self.new result }
+        ensures kept { OnOk result (KeepsUsed all.entry self.old self.new) }
+        ensures stands { OnOk result (IsPrepared all.entry self.new kind) }
         ensures refused { IfErr result (λ e. e ≡ WriteError.Unwritable → LacksIdentifiers all.entry.types.now kind) }
     {
         match interface_of(all.types, kind) {
@@ -551,6 +507,8 @@ impl ImportScope {
         id: InterfaceId,
     ) -> Result<(), WriteError>
         ensures keeps { KeepsWorld all.entry self.old self.new result }
+        ensures kept { OnOk result (KeepsUsed all.entry self.old self.new) }
+        ensures stands { OnOk result (AllUsedStand all.entry self.new id) }
         ensures refused { IfErr result (λ e. e ≡ WriteError.Unwritable
             → LacksIdentifiers all.entry.types.now (ItemKind.Instance id)) }
     {
@@ -571,6 +529,8 @@ impl ImportScope {
         at: usize,
     ) -> Result<(), WriteError>
         ensures keeps { KeepsWorld all.entry self.old self.new result }
+        ensures kept { OnOk result (KeepsUsed all.entry self.old self.new) }
+        ensures stands { OnOk result (IsPreparedAt all.entry self.new id at) }
         ensures refused { IfErr result (λ e. e ≡ WriteError.Unwritable
             → LacksIdentifiers all.entry.types.now (ItemKind.Instance id)) }
     {
@@ -588,6 +548,7 @@ impl ImportScope {
         import: Item<'_>,
     ) -> Result<Option<Description>, WriteError>
         ensures describes { MayDescribe all.entry import.entry self.old self.new result }
+        ensures kept { OnOk result (KeepsUsed all.entry self.old self.new) }
         ensures refused { IfErr result (λ e. e ≡ WriteError.Unwritable → IsGivenUnnamed all.entry import.entry) }
     {
         all.types.see_acyclic();
@@ -652,6 +613,8 @@ impl ImportScope {
         import: Item<'_>,
     ) -> Result<Option<Description>, WriteError>
         ensures describes { MayDescribe all.entry import.entry self.old self.new result }
+        ensures kept { OnOk result (KeepsUsed all.entry self.old self.new) }
+        ensures prepared { IfOk result (λ o. IfNone o (IsPrepared all.entry self.new import.entry.kind)) }
         ensures refused { IfErr result (λ e. e ≡ WriteError.Unwritable → UsesUnnamed all.entry import.entry) }
     {
         let used = self.describe_used(alloc, all, import)?;
@@ -669,6 +632,8 @@ impl ImportScope {
         import: Item<'_>,
     ) -> Result<Option<Description>, WriteError>
         ensures describes { MayDescribe all.entry import.entry self.old self.new result }
+        ensures kept { OnOk result (KeepsUsed all.entry self.old self.new) }
+        ensures prepared { IfOk result (λ o. IfNone o (IsPrepared all.entry self.new import.entry.kind)) }
         ensures refused { IfErr result (λ e. e ≡ WriteError.Unwritable → LacksIdentifiers all.entry.types.now import.entry.kind) }
     {
         all.types.see_acyclic();
@@ -757,7 +722,7 @@ impl ImportScope {
         at: usize,
     ) -> Result<(), WriteError>
         ensures writes { WritesImport all.entry at self.old self.new result }
-        ensures refused { RefusesImportAt all.entry (λ x. slice_get (all_imports all.entry) at ≡ Some x) self.old self.new result }
+        ensures refused { RefusesImportPlaced all.entry at self.old self.new result }
     {
         let count = import_count(all.types, all.world);
         if at >= count {

@@ -11,7 +11,7 @@ ghost use Rattle.wac_types_fit.specs.Trees.{IsInside, tree_in};
 ghost use Rattle.wac_graph_bytes.specs.Typing.{Worlds, Scope, nothing_inside};
 ghost use Rattle.wac_graph_scopes.specs.Used.{IsUsedAs};
 ghost use Rattle.wac_types_parts.specs.Parts.{exports_of};
-ghost use Rattle.wac_graph_scopes.specs.declared.fault.WriteError.{WriteError};
+ghost use Rattle.wac_graph_scopes.specs.declared.error.WriteError.{WriteError};
 ghost use Rattle.wac_graph_scopes.specs.Known.{KeepsKnown};
 ghost use Rattle.wac_graph_scopes.specs.Refusals.{RefusedThere};
 ghost use Rattle.wac_graph_scopes.specs.ItemRefusals.{RefusedModule, RefusedType, RefusedItem};
@@ -22,7 +22,7 @@ ghost use Rattle.wac_graph_scopes.specs.Items.{FindsUsed, FindsUnder, Misses, Ex
 ghost use Rattle.wac_graph_scopes.specs.Items.{StatesType, StatesTypeItem, StatesModule, DescribesSimply, MakesItem, HasEntry, DescribesEntry, StatesItem, StatesClosed, DescribesItem, ExportsOne, WritesOtherAt, WritesOthers, WritesInstance, MakesInstance};
 
 use crate::core_items::module_declarations;
-use crate::fault::WriteError;
+use crate::error::WriteError;
 use crate::resources::{note_resource, resource_of};
 use crate::scope::{TypeScope, next_of};
 use crate::stock::begin_instance;

@@ -11,12 +11,12 @@ ghost use Rattle.wac_types_fit.specs.Checking.{HoldsValues};
 ghost use Rattle.wac_graph_scopes.specs.declared.scope.TypeScope.{TypeScope};
 ghost use Rattle.wac_graph_scopes.specs.Refusals.{IsWhole, AreLacking, TellsLacking, NoneDangles};
 
-use crate::prints::value_of;
 use crate::resources::is_unnamed;
 use crate::scope::TypeScope;
 use indexmap::IndexMap;
 use std::alloc::{AllocError, Global};
 use wac_types_base::{DefinedTypeId, ItemKind, Types, ValueType};
+use wac_types_fit::value_of;
 
 /// Whether such a handle stands in defined types, of those that were looked into.
 #[derive(Drop)]

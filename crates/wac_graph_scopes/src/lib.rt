@@ -4,7 +4,8 @@
 
 mod core_items;
 mod entry;
-pub mod fault;
+pub mod error;
+mod import_places;
 pub mod imports;
 pub mod items;
 mod lacking;

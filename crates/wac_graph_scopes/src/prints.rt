@@ -11,7 +11,7 @@ ghost use Rattle.wac_types_base.specs.Entries.{texts_of};
 ghost use Rattle.wac_types_base.specs.Collection.{Stands, StandsIf, defined_entry};
 ghost use Rattle.wac_types_base.specs.Resolving.{IsNoAlias};
 ghost use Rattle.wac_types_fit.specs.Trees.{tree_in};
-ghost use Rattle.wac_types_fit.specs.Checking.{value_in, HoldsValues, value_tree, place_trees};
+ghost use Rattle.wac_types_fit.specs.Checking.{HoldsValues, value_tree, place_trees};
 ghost use Rattle.wac_graph_scopes.specs.Prints.{text_print, joined, names_print, primitive_print, label_print, resource_print, type_print, ArePrints, GivesPrint, GivesPlace, GivesRow};
 
 use indexmap::IndexMap;
@@ -20,6 +20,7 @@ use std::hash::{FoldHasher, Hash, Hasher};
 use wac_types_base::{
     DefinedType, DefinedTypeId, ItemKind, PrimitiveType, ResourceId, Types, ValueType,
 };
+use wac_types_fit::value_of;
 
 /// The numbers of defined types, each found once.
 #[derive(Drop)]
@@ -105,16 +106,6 @@ fn resource_print(types: &Types, id: ResourceId) -> u64
     types.see_acyclic();
     let root = types.resource(types.resolve_resource(id));
     text_print(root.name.as_str())
-}
-
-/// The value type in a place.
-pub(crate) fn value_of(place: Option<ItemKind>) -> Option<ValueType>
-    ensures { result ≡ value_in place }
-{
-    match place {
-        Some(ItemKind::Value(ty)) => Some(ty),
-        _ => None,
-    }
 }
 
 impl Prints {

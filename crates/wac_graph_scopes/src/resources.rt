@@ -8,12 +8,12 @@ ghost use Rattle.wac_types_base.specs.declared.item.«Type».{«Type» as TypeKi
 ghost use Rattle.wac_types_base.specs.Entries.{value_at};
 ghost use Rattle.wac_types_base.specs.Collection.{Stands};
 ghost use Rattle.wac_types_fit.specs.Trees.{tree_in};
-ghost use Rattle.wac_graph_scopes.specs.declared.fault.WriteError.{WriteError};
+ghost use Rattle.wac_graph_scopes.specs.declared.error.WriteError.{WriteError};
 ghost use Rattle.wac_graph_scopes.specs.Refusals.{IsUnnamed};
 ghost use Rattle.wac_graph_scopes.specs.Stock.{Holds, KeepsTypes};
 ghost use Rattle.wac_graph_scopes.specs.Scopes.{FindsEntry, FindsResource, NotesResource, NotesEntry};
 
-use crate::fault::WriteError;
+use crate::error::WriteError;
 use crate::scope::TypeScope;
 use std::alloc::Global;
 use wac_types_base::{ItemKind, ResourceId, Type, Types};

@@ -4,13 +4,13 @@ ghost use Rattle.std.specs.Prelude.{◌≡◌, IfSome, IfNone, IfOk, IfErr, OnOk
 ghost use Rattle.wac_types_base.specs.Entries.{names_of, has_name, AreDistinct};
 ghost use Rattle.wac_types_base.specs.Collection.{Stands};
 ghost use Rattle.wac_types_parts.specs.Parts.{exports_of, uses_of, IsFresh};
-ghost use Rattle.wac_graph_scopes.specs.declared.fault.WriteError.{WriteError};
+ghost use Rattle.wac_graph_scopes.specs.declared.error.WriteError.{WriteError};
 ghost use Rattle.wac_graph_scopes.specs.ItemRefusals.{RefusedUse};
 ghost use Rattle.wac_graph_scopes.specs.Stock.{Holds, HoldsStock, KeepsTypes, HoldsUse, HoldsUseAt, HoldsUses, HoldsExport, HoldsExports, GivesExports, IsGivenAt, HoldsOwnAt, HoldsOwn};
 ghost use Rattle.wac_graph_scopes.specs.InstanceRefusals.{LacksIdentifier, UseRefused};
 ghost use Rattle.wac_graph_scopes.specs.Items.{Misses, IsUsedBy, AliasesUsed, ExportsTaken, ExportsUsed, TakesUse, TakesNamed, TakesAt, BeginsInstance, KeepsWriting};
 
-use crate::fault::WriteError;
+use crate::error::WriteError;
 use crate::items::{
     Around, ItemScope, PlacedInterface, add_name, export_resource, exports_taken, find_used,
     other_at,

@@ -1,9 +1,10 @@
 //! Where imports stand that are types, for those that are made of them.
 
-ghost use Rattle.std.specs.Prelude.{IfSome};
+ghost use Rattle.std.specs.Prelude.{◌≡◌, IfSome, OnOk};
 ghost use Rattle.wac_types_base.specs.declared.item.ItemKind.{ItemKind};
 ghost use Rattle.wac_types_base.specs.declared.item.ValueType.{ValueType};
 ghost use Rattle.wac_types_base.specs.Collection.{Stands};
+ghost use Rattle.wac_graph_scopes.specs.Orders.{IsSource};
 
 use crate::imports::Importing;
 use crate::prints::Prints;
@@ -36,7 +37,8 @@ fn defined_end(types: &Types, ty: ValueType) -> Option<DefinedTypeId>
 
 /// The defined type that an item is, at the end of its aliases.
 fn defined_type(types: &Types, kind: ItemKind) -> Option<DefinedTypeId>
-    ensures { IfSome result (λ id. Stands types.now (ItemKind.Value (ValueType.Defined id))) }
+    ensures stands { IfSome result (λ id. Stands types.now (ItemKind.Value (ValueType.Defined id))) }
+    ensures no_source { IfSome result (λ _. IsSource kind → ⊥) }
 {
     match kind {
         ItemKind::Ty(Type::Value(ty)) => defined_end(types, ty),
@@ -46,7 +48,8 @@ fn defined_type(types: &Types, kind: ItemKind) -> Option<DefinedTypeId>
 
 /// What an item is made of that is a type of values or functions.
 fn made_type(types: &Types, kind: ItemKind) -> Option<ItemKind>
-    ensures { IfSome result (Stands types.now) }
+    ensures stands { IfSome result (Stands types.now) }
+    ensures no_source { IfSome result (λ _. IsSource kind → ⊥) }
 {
     let made = match kind {
         ItemKind::Ty(Type::Func(id)) => ItemKind::Func(id),
@@ -88,7 +91,9 @@ impl TypePlaces {
         types: &Types,
         kind: ItemKind,
         needs: &mut Vec<usize>,
-    ) -> Result<(), AllocError> {
+    ) -> Result<(), AllocError>
+        ensures { OnOk result (IsSource kind → needs.new.items ≡ needs.old.items) }
+    {
         if self.places.is_empty() {
             return Ok(());
         }

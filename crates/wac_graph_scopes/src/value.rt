@@ -1,23 +1,22 @@
 //! Types of values and functions in a scope of written types.
 
-ghost use Rattle.std.specs.Prelude.{◌≡◌, ℕ, Some, IfOk, IfErr, OnOk, true, false};
+ghost use Rattle.std.specs.Prelude.{◌≡◌, Some, IfOk, IfErr, OnOk, true, false};
 ghost use Rattle.wac_types_base.specs.Record.{Collection};
 ghost use Rattle.wac_types_base.specs.declared.item.ItemKind.{ItemKind};
 ghost use Rattle.wac_types_base.specs.declared.item.ValueType.{ValueType};
 ghost use Rattle.wac_types_base.specs.Collection.{Stands, StandsIf};
 ghost use Rattle.wac_types_base.specs.Resolving.{IsNoAlias};
 ghost use Rattle.wac_types_fit.specs.Trees.{tree_in, Fit};
-ghost use Rattle.wac_types_fit.specs.Checking.{value_in, HoldsValues, value_tree, place_trees};
-ghost use Rattle.wac_graph_scopes.specs.declared.fault.WriteError.{WriteError};
+ghost use Rattle.wac_types_fit.specs.Checking.{HoldsValues, value_tree, place_trees};
+ghost use Rattle.wac_graph_scopes.specs.declared.error.WriteError.{WriteError};
 ghost use Rattle.wac_graph_scopes.specs.Known.{IsNamed, KeepsKnown};
 ghost use Rattle.wac_graph_scopes.specs.Stock.{KeepsTypes};
 ghost use Rattle.wac_graph_scopes.specs.Refusals.{FindsNeeded, FindsAll, LacksTree, Refused, RefusedHandle, RefusedParts, RefusedApart, RefusedPlace, RefusedThere, RefusedThereApart};
 ghost use Rattle.wac_graph_scopes.specs.Scopes.{KeepsScope, FindsOwn, FindsType, FindsTree, FindsTreeAt, FindsValue, WritesValue, WritesOwn, WritesDefined, WritesType, WritesPlaces, WritesPlace, WritesEntry, WritesIndex, MakesEntry, RemembersValue, NotesValue};
 
 use crate::entry::{entry_of, func_entry_of};
-use crate::fault::WriteError;
+use crate::error::WriteError;
 use crate::lacking::lacks_resource;
-use crate::prints::value_of;
 use crate::resources::resource_of;
 use crate::scope::{KnownType, TypeScope};
 use std::alloc::{AllocError, Global};
@@ -26,7 +25,7 @@ use wac_types_base::replace::is_same;
 use wac_types_base::{
     DefinedType, DefinedTypeId, FuncTypeId, ItemKind, ResourceId, Types, ValueType,
 };
-use wac_types_fit::{SubtypeChecker, SubtypeError, new_cache};
+use wac_types_fit::{is_subtype, value_of};
 
 /// The index of a type entry that is such a handle.
 fn define_own(scope: &mut TypeScope, types: &Types, id: ResourceId) -> Result<u64, WriteError>
@@ -213,13 +212,7 @@ pub fn fits_in(alloc: Global, types: &Types, a: ItemKind, b: ItemKind) -> Result
     if is_same(a, b) {
         return Ok(true);
     }
-    let mut cache = new_cache(alloc);
-    let mut checker = SubtypeChecker::new(alloc, &mut cache);
-    match checker.is_subtype(a, types, b, types) {
-        Ok(()) => Ok(true),
-        Err(SubtypeError::Mismatch { .. }) => Ok(false),
-        Err(SubtypeError::Memory) => Err(AllocError),
-    }
+    is_subtype(alloc, types, a, b)
 }
 
 /// The place in the list of those that are known where a type of this number with a name stands.

@@ -10,7 +10,7 @@ ghost use Rattle.wac_graph_scopes.specs.Items.{HasNameAt, StatesClosed, Describe
 ghost use Rattle.wac_graph_scopes.specs.Imports.{all_exports, KeepsWorld, WritesInOrder, KeepsExporting, ExportsAt, ExportsInOrder, ExportsAll, ExportsThere};
 ghost use Rattle.wac_graph_scopes.specs.Imports.{AliasesInstance, AliasesSource, WritesBetween, WritesBeforeOthers, BeginsWorld, MakesComponent};
 
-use crate::fault::WriteError;
+use crate::error::WriteError;
 use crate::imports::{ImportScope, Importing};
 use crate::items::{ItemScope, add_name, export_resource};
 use crate::order::export_order;
@@ -25,7 +25,7 @@ use wac_types_parts::parts::{
 
 /// Writes the imports at places of a world.
 #[cycle(types)]
-fn write_imports(
+pub fn write_imports(
     alloc: Global,
     all: Importing<'_>,
     scope: &mut ImportScope,

@@ -21,7 +21,8 @@ use Rattle.wac_parser_declare.specs.Worlds.{type_statement}
 use Rattle.wac_parser_resolve.specs.Ascribing.{imported, defined, Denoted, Made, Import, State, start, root_scope, context, denoted_by, bound, is_projection, same_origin, speak_of, worlds_of}
 use Rattle.wac_parser_resolve.specs.Choosing.{greatest_on}
 use Rattle.wac_parser_resolve.specs.Denoting.{Given, needs_instance, export_named, access_by, spoken, access, accesses, add_given, inferred_name, argument_name, left_names, spread_given, spread_all, spread_one, spreads_of, argument_fits, complete, is_filled, is_last, with_made, finished, key_named, version_key, new_package, denote, primary, nested, new_instance, arguments, one_argument, named_argument}
-use Rattle.wac_parser_resolve.specs.Saying.{asked, import_name, import_called, not_imported, is_extern_name, is_exportable, no_definition, new_export, export_name, written_name, with_import, import_statement, not_exported, with_definition, declaration, declared_id, export_as, exported, export_one, export_left, expr_span, statement, statements}
+use Rattle.wac_types_names.specs.InterfaceNames.{is_exportable, is_extern_name}
+use Rattle.wac_parser_resolve.specs.Saying.{asked, import_name, import_called, not_imported, no_definition, new_export, export_name, written_name, with_import, import_statement, not_exported, with_definition, declaration, declared_id, export_as, exported, export_one, export_left, expr_span, statement, statements}
 use Rattle.wac_parser_resolve.specs.Meeting.{target, resolved}
 use Rattle.wac_parser_resolve.proofs.Answers.{err_ok, ok_of, then_ok, ok_is, each_keeps}
 use Rattle.wac_parser_resolve.proofs.Numbers.{each_more}

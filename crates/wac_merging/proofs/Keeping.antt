@@ -5,7 +5,7 @@ use Rattle.wac_types_base.specs.declared.ids.InterfaceId.{InterfaceId}
 use Rattle.wac_types_base.specs.Record.{Collection}
 use Rattle.wac_types_base.specs.Entries.{Name}
 use Rattle.wac_types_base.specs.Collection.{IsAcyclic, Grows}
-use Rattle.wac_types_merge.specs.declared.errors.AggregateError.{AggregateError}
+use Rattle.wac_types_merge.specs.declared.error.AggregateError.{AggregateError}
 use Rattle.wac_types_merge.specs.declared.family.Family.{Family}
 use Rattle.wac_types_merge.specs.Errors.{Refuses, LeadsTo}
 use Rattle.wac_types_merge.specs.Families.{UsesUnnamed, joint}

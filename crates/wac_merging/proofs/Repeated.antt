@@ -10,7 +10,7 @@ use Rattle.wac_types_base.specs.Graph.{Among}
 use Rattle.wac_types_base.proofs.Adding.{Among-left, Among-right}
 use Rattle.wac_types_base.proofs.Lists.{among_mapped}
 use Rattle.wac_types_base.specs.Tree.{tree}
-use Rattle.wac_types_merge.specs.declared.errors.AggregateError.{AggregateError}
+use Rattle.wac_types_merge.specs.declared.error.AggregateError.{AggregateError}
 use Rattle.wac_composition.specs.Asks.{Asking, ByName, ToFill, ToUse, Ask}
 use Rattle.wac_composition.specs.Classes.{class}
 use Rattle.wac_composition.specs.Merging.{is_plain, is_wit, Asked, in_family, kept}

@@ -17,7 +17,7 @@ use Rattle.wac_types_fit.specs.Trees.{tree_in}
 use Rattle.wac_types_fit.specs.Meets.{IsPlain}
 use Rattle.wac_types_fit.proofs.Ordering.{tree_in_order}
 use Rattle.wac_types_merge.specs.declared.family.Family.{Family}
-use Rattle.wac_types_merge.specs.declared.errors.AggregateError.{AggregateError}
+use Rattle.wac_types_merge.specs.declared.error.AggregateError.{AggregateError}
 use Rattle.wac_types_merge.specs.Errors.{Refuses, LeadsTo}
 use Rattle.wac_types_merge.specs.Families.{joint}
 use Rattle.wac_types_merge.specs.Interfaces.{LeadsIn}

@@ -4,11 +4,11 @@ use Rattle.wac_types_base.specs.Graph.{Among}
 use Rattle.wac_types_base.specs.Stated.{Stated}
 use Rattle.wac_types_base.specs.Tree.{Tree, tree}
 use Rattle.wac_types_base.specs.Fits.{Fits}
-use Rattle.wac_types_fit.specs.declared.errors.SubtypeError.{SubtypeError}
+use Rattle.wac_types_fit.specs.declared.error.SubtypeError.{SubtypeError}
 use Rattle.wac_types_fit.specs.Errors.{steps_of}
 use Rattle.wac_types_fit.specs.Frames.{Step, Disagree}
 use Rattle.wac_types_fit.specs.Meets.{Clash}
-use Rattle.wac_types_merge.specs.declared.errors.AggregateError.{AggregateError}
+use Rattle.wac_types_merge.specs.declared.error.AggregateError.{AggregateError}
 use Rattle.wac_composition.specs.Asks.{Ask}
 use Rattle.wac_composition.specs.Classes.{class}
 use Rattle.wac_composition.specs.Merging.{Asked, in_family, kept}

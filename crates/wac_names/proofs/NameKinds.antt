@@ -9,7 +9,7 @@ use Rattle.std.proofs.lemmas.List.Sums.{passes_at_first, split_at_first}
 use Rattle.std.proofs.lemmas.List.{take-append-drop, append_cancel_left}
 use Rattle.std.proofs.Math.Seq.{take-append_seam}
 use Rattle.std.specs.Char.{is_ascii_lowercase, is_ascii_uppercase, is_ascii_digit}
-use Rattle.std.proofs.lemmas.Bool.{and_from, and_parts, or_right}
+use Rattle.std.proofs.lemmas.Bool.{and_from, and_parts, or_cases, or_left, or_right}
 use Rattle.std.proofs.lemmas.List.{append-nil}
 use Rattle.std.proofs.lemmas.List.Folds.{list_all-append}
 use Rattle.std.proofs.lemmas.Bool.Decides.{Decides-eqb}
@@ -20,14 +20,6 @@ use Rattle.wac_names.specs.ComponentNames.{lower_or_digit, upper_or_digit, lower
 use Rattle.wac_names.specs.NameTests.{label_test, member_test, plain_test, package_test, path_test, is_full, unbroken_test, joined_test}
 use Rattle.wac_names.proofs.Parts.{cons_head, cons_tail}
 use Rattle.wac_names.proofs.NameForms.{first_place, no_place, dropped, joined_decides, pair_decides, behind_decides}
-
-pub or_parts : (a b : Bool) → (a || b) ≡ true → (a ≡ true) ⊎ (b ≡ true)
-or_parts true b e = inl refl
-or_parts false b e = inr e
-
-pub or_left : (a b : Bool) → a ≡ true → (a || b) ≡ true
-or_left true b e = refl
-or_left false b e = absurd cc
 
 -- ---- which bytes stand in which names
 
@@ -58,7 +50,7 @@ upper_bytes (b ∷ bs) e =
     and_from _ _ (upper_label b (or_left (is_ascii_uppercase b) (is_ascii_digit b) a.0)) (all_weaker upper_or_digit label_byte upper_label bs a.1)
 
 word_bytes : (w : List ℕ) → IsWord w → list_all label_byte w ≡ true
-word_bytes w e = elim (or_parts (lower_word w) (upper_word w) e) [ inl a ↦ lower_bytes w a | inr a ↦ upper_bytes w a ]
+word_bytes w e = elim (or_cases (lower_word w) (upper_word w) e) [ inl a ↦ lower_bytes w a | inr a ↦ upper_bytes w a ]
 
 both_bytes : (q : ℕ → Bool) (a b : List ℕ) → list_all q a ≡ true → list_all q b ≡ true → list_all q (a ++ b) ≡ true
 both_bytes q a b e f = list_all-append q a b ∙ and_from _ _ e f
@@ -135,7 +127,7 @@ label_decides text = joined_decides 45 word_test IsWord word_decides (λ w e. la
         (upper_not b (b == 45) refl (or_left (is_ascii_uppercase b) (is_ascii_digit b) a.0), lacks upper_or_digit 45 refl bs a.1)
 
     lacks_dash : (w : List ℕ) → IsWord w → AllByRecursion (λ b. (b == 45) ≡ false) w
-    lacks_dash w e = elim (or_parts (lower_word w) (upper_word w) e) [ inl a ↦ lacks_lower w a | inr a ↦ lacks_upper w a ]
+    lacks_dash w e = elim (or_cases (lower_word w) (upper_word w) e) [ inl a ↦ lacks_lower w a | inr a ↦ lacks_upper w a ]
 
 labels_decide : (c : ℕ) → label_byte c ≡ false → (text : List ℕ) → Decides (joined_test c label_test text) (IsJoined c IsLabel text)
 labels_decide c f text = joined_decides c label_test IsLabel label_decides (λ w j. lacks label_byte c f w (label_bytes w j)) text
@@ -155,7 +147,7 @@ path_lacks text j = lacks path_byte 64 refl text (path_bytes text j)
 
 pub either : (a b : Bool) (P Q : Type 0) → Decides a P → Decides b Q → Decides (a || b) (P ⊎ Q)
 either a b P Q d e = (
-  λ h. elim (or_parts a b h) [ inl x ↦ inl (d.0 x) | inr y ↦ inr (e.0 y) ],
+  λ h. elim (or_cases a b h) [ inl x ↦ inl (d.0 x) | inr y ↦ inr (e.0 y) ],
   λ h. elim h [ inl x ↦ or_left a b (d.1 x) | inr y ↦ or_right a b (e.1 y) ],
 )
 

@@ -1,6 +1,6 @@
 -- Tests of the forms of names.
 use Rattle.std.specs.Prelude.{◌==◌, ℕ, List, [], ◌∷◌, length, nat_lt, codes, ◌&&◌, ◌||◌, not, Bool, true, false, take, drop}
-use Rattle.std.specs.List.{list_all, slice_split, before_first, after_first, position_or_len}
+use Rattle.std.specs.List.{list_all, list_any, slice_split, before_first, after_first, position_or_len}
 use Rattle.std.specs.Cmp.Lexicographic.{pointwise}
 use Rattle.wac_names.specs.ComponentNames.{word_test}
 
@@ -40,3 +40,18 @@ is_full (x ∷ xs) = true
 
 abbrev pub unbroken_test : List ℕ → Bool
 unbroken_test text = is_full text && list_all (λ b. not (b == 60)) text
+
+-- not empty before the `>` that ends it, and without a `<`
+abbrev pub ended : List ℕ → Bool
+ended [] = false
+ended (b ∷ []) = b == 62
+ended (b ∷ c ∷ cs) = not (b == 60) && ended (c ∷ cs)
+
+abbrev pub inside_test : List ℕ → Bool
+inside_test [] = false
+inside_test (b ∷ bs) = not (b == 60) && ended bs
+
+abbrev pub bracketed_test : List ℕ → Bool
+bracketed_test text =
+    list_any (λ front. behind_test front inside_test text) (codes "unlocked-dep=<" ∷ codes "locked-dep=<" ∷ codes "url=<"
+    ∷ codes "integrity=<" ∷ [])

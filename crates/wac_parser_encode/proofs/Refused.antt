@@ -18,7 +18,7 @@ use Rattle.wac_composition.specs.Conflicts.{first_cause, name_cause}
 use Rattle.wac_composition.specs.Renaming.{cause_renamed}
 use Rattle.wac_composition.proofs.Against.{causes_stand}
 use Rattle.wac_graph_asks.specs.Graphs.{composition_of}
-use Rattle.wac_graph_causes.specs.declared.errors.EncodeError.{EncodeError}
+use Rattle.wac_graph_causes.specs.declared.error.EncodeError.{EncodeError}
 use Rattle.wac_names.specs.declared.error.ValidationFault.{ValidationFault}
 use Rattle.wac_graph_causes.specs.Implicit.{IsKeyOf}
 use Rattle.wac_graph_encode.specs.declared.options.EncodeOptions.{EncodeOptions}
@@ -138,6 +138,7 @@ module _ (options : EncodeOptions) (g : Graph) (at : Places) (s : State) (tied :
   told (EncodeError.ExplicitImportConflict n first second) h = explicit_told (string_bytes n) first second h
   told (EncodeError.ImportTypeMergeConflict n first second source) h = merge_failed (string_bytes n) first second h.0
   told (EncodeError.TypeCannotBeWritten n) h = said (cause.Unwritable (string_bytes n)) h
+  told EncodeError.TypeNotWritten h = none_told h
   told EncodeError.TooLarge h = (none_told h.0, too_large_told h.1)
   told (EncodeError.ValidationFailure (ValidationFault.ImportNames m n)) h = (none_told h.0, alike_told (cause.ImportNames (string_bytes m) (string_bytes n)) h.1)
   told (EncodeError.ValidationFailure (ValidationFault.ExportNames m n)) h = (none_told h.0, alike_told (cause.ExportNames (string_bytes m) (string_bytes n)) h.1)
@@ -172,6 +173,7 @@ processed g old new e is h = by e (subst (λ (b : Bool). IsErrorFor (record new 
     by (EncodeError.ExplicitImportConflict n first second) h = h
     by (EncodeError.ImportTypeMergeConflict n first second source) h = h
     by (EncodeError.TypeCannotBeWritten n) h = h
+    by EncodeError.TypeNotWritten h = h
     by EncodeError.TooLarge (none, inl large) = (none, inl (large_processor old new is large))
     by EncodeError.TooLarge (none, inr past) = (none, inr (record { nested = past.nested; imported = λ define alike. past.imported define ((λ j. name_cause old.define_components (is.validate j) (composition_of g)) ∙ alike) }))
     by (EncodeError.ValidationFailure fault) h = (h.0, (λ j. name_cause old.define_components (sym is.validate j) (composition_of g)) ∙ h.1)
@@ -218,6 +220,7 @@ module _ (g : Graph) where
   source_told options (EncodeError.ImplicitImportConflict import instantiation key n) h = tt
   source_told options (EncodeError.ExplicitImportConflict n first second) h = tt
   source_told options (EncodeError.TypeCannotBeWritten n) h = tt
+  source_told options EncodeError.TypeNotWritten h = tt
   source_told options EncodeError.TooLarge h = tt
   source_told options (EncodeError.ValidationFailure fault) h = tt
   source_told options (EncodeError.GraphContainsCycle node) h = tt

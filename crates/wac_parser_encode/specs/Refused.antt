@@ -6,7 +6,7 @@ use Rattle.wac_types_names.specs.Keys.{Key, owned_key}
 use Rattle.wac_graph_core.specs.Graph.{Graph}
 use Rattle.wac_composition.specs.Conflicts.{first_cause, name_cause}
 use Rattle.wac_graph_asks.specs.Takes.{TellsConflictIn}
-use Rattle.wac_graph_causes.specs.declared.errors.EncodeError.{EncodeError}
+use Rattle.wac_graph_causes.specs.declared.error.EncodeError.{EncodeError}
 use Rattle.wac_graph_encode.specs.declared.options.EncodeOptions.{EncodeOptions}
 use Rattle.wac_graph_encode.specs.Refused.{HasLargeProcessor}
 use Rattle.wac_parser_tree.specs.Trees as t
@@ -33,6 +33,7 @@ fault_in at (EncodeError.ExplicitImportConflict n first second) =
 fault_in at (EncodeError.ImportTypeMergeConflict n first second source) =
     at_place (Fault.InstantiationArgMergeFailure (string_bytes n) (asker_place at first)) (asker_place at second)
 fault_in at (EncodeError.TypeCannotBeWritten n) = anywhere (Fault.TypeCannotBeWritten (string_bytes n))
+fault_in at EncodeError.TypeNotWritten = anywhere Fault.TypeNotWritten
 fault_in at EncodeError.TooLarge = anywhere Fault.TooLarge
 fault_in at (EncodeError.ValidationFailure fault) = anywhere (alike_fault fault)
 fault_in at (EncodeError.GraphContainsCycle node) = None
@@ -60,11 +61,12 @@ module _ (options : EncodeOptions) (s : State) where
 
   abbrev pub IsToldFault : Fault → Cause → Type 0
   IsToldFault (Fault.ValidationFailure kind m n) c = HasNoFirst options.define_components s × AreFirstAlike c
+  IsToldFault Fault.TypeNotWritten c = HasNoFirst options.define_components s
   IsToldFault Fault.TooLarge c = HasNoFirst options.define_components s × IsOfSize options s c
   IsToldFault f c = IsFirst options.define_components s c
 
-  -- it is the first cause, with its fields and its place; where none stands, the size, or names that are alike; want of memory
-  -- may always be answered
+  -- it is the first cause, with its fields and its place; where none stands, a type that was not written, the size, or names that
+  -- are alike; want of memory may always be answered
   abbrev pub TellsCause : Option Cause → Type 0
   TellsCause None = Unit {0}
   TellsCause (Some c) = IsToldFault c.fault c

@@ -62,6 +62,7 @@ fn fault_of<D>(resolution: &Resolved<'_, D>, fault: EncodeError) -> Error
             source,
         },
         EncodeError::TypeCannotBeWritten { name } => Error::TypeCannotBeWritten { name },
+        EncodeError::TypeNotWritten => Error::TypeNotWritten,
         EncodeError::TooLarge => Error::TooLarge,
         EncodeError::ValidationFailure { source } => Error::ValidationFailure { source },
         EncodeError::GraphContainsCycle { .. } => unreachable!(),

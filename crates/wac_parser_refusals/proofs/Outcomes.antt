@@ -2,7 +2,7 @@
 use Rattle.std.proofs.Common.{◌≡◌, Bool, true, false, true≢false, Option, Some, None, Result, Ok, Err, refl, sym, subst, IsErrAnd}
 use Rattle.wac_types_base.specs.Stated.{Stated}
 use Rattle.wac_types_fit.specs.declared.checker.SubtypeCheck.{SubtypeCheck}
-use Rattle.wac_types_fit.specs.declared.errors.SubtypeError.{SubtypeError}
+use Rattle.wac_types_fit.specs.declared.error.SubtypeError.{SubtypeError}
 use Rattle.wac_types_fit.specs.Errors.{words_of}
 use Rattle.wac_parser_lexer.specs.declared.span.SourceSpan.{SourceSpan as Span}
 use Rattle.wac_parser_refusals.specs.declared.refusal.Refusal.{Refusal}

@@ -55,6 +55,7 @@ pub data Fault : Type 0 where
   -- what the two names are of
   ValidationFailure : ExternKind → Name → Name → Fault
   TypeCannotBeWritten : Name → Fault
+  TypeNotWritten : Fault
   TooLarge : Fault
   -- the name, its kind
   NotFuncOrInterface : Name → Name → Fault

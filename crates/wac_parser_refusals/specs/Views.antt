@@ -2,7 +2,7 @@
 use Rattle.std.specs.Prelude.{◌≡◌, Option, Some, None, is_some, option_map, string_bytes}
 use Rattle.wac_names.specs.declared.error.ValidationFault.{ValidationFault}
 use Rattle.wac_types_base.specs.declared.item.ExternKind.{ExternKind}
-use Rattle.wac_types_fit.specs.declared.errors.SubtypeError.{SubtypeError}
+use Rattle.wac_types_fit.specs.declared.error.SubtypeError.{SubtypeError}
 use Rattle.wac_types_fit.specs.Errors.{words_of}
 use Rattle.wac_types_names.specs.Keys.{owned_key}
 use Rattle.wac_parser_lexer.specs.declared.span.SourceSpan.{SourceSpan as Span}
@@ -74,6 +74,7 @@ cause_of (error.TargetMismatch kind name world span source) =
     checked_at (Fault.TargetMismatch kind (string_bytes name) (string_bytes world)) span source
 cause_of (error.ValidationFailure source) = anywhere (alike_fault source)
 cause_of (error.TypeCannotBeWritten name) = anywhere (Fault.TypeCannotBeWritten (string_bytes name))
+cause_of error.TypeNotWritten = anywhere Fault.TypeNotWritten
 cause_of error.TooLarge = anywhere Fault.TooLarge
 cause_of (error.NotFuncOrInterface name kind span) = at_place (Fault.NotFuncOrInterface (string_bytes name) kind.now) span
 cause_of (error.NotInterface name kind span) = at_place (Fault.NotInterface (string_bytes name) kind.now) span

@@ -288,6 +288,8 @@ pub enum Error {
         /// The name.
         name: String,
     },
+    /// A type was not written against which no cause stands. No source is known of which it is answered.
+    TypeNotWritten,
     /// A count, an index or a size is too large.
     TooLarge,
     /// A name is not one of a function type or an interface.
@@ -584,6 +586,7 @@ impl Error {
             Error::ImportNotInTarget { span, .. } | Error::TargetMismatch { span, .. } => *span,
             Error::ValidationFailure { .. }
             | Error::TypeCannotBeWritten { .. }
+            | Error::TypeNotWritten
             | Error::TooLarge
             | Error::Memory => None,
         }

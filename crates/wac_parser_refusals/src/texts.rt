@@ -248,6 +248,7 @@ fn text_of(error: &Error) -> Text<'_> {
         ),
         Error::ValidationFailure { .. } => plain("the encoding of the graph failed validation"),
         Error::TypeCannotBeWritten { name } => one("a type of `#` cannot be written", name),
+        Error::TypeNotWritten => plain("a type that can be written was not"),
         Error::TooLarge => plain("the component is too large"),
         Error::NotFuncOrInterface { name, kind, .. } => of_kind(
             "`#` (#) is not a function type or interface",

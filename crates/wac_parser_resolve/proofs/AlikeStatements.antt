@@ -25,7 +25,8 @@ use Rattle.wac_parser_declare.proofs.AlikeBodies.{inline_alike}
 use Rattle.wac_parser_declare.proofs.AlikeWorlds.{type_statement_alike}
 use Rattle.wac_parser_declare.proofs.Kept.{with_values-more}
 use Rattle.wac_parser_resolve.specs.Ascribing.{imported, defined, Denoted, Import, Bound, State, start, root_scope, worlds_of, context, bound, speak_of, is_own_definition}
-use Rattle.wac_parser_resolve.specs.Saying.{is_exportable, is_extern_name, asked, identified, written_name, told_name, import_name, import_called, not_imported, with_import, import_statement, not_exported, with_definition, declaration, type_id, declared_id, no_definition, new_export, exported, export_name, export_one, export_left, export_as, expr_span, statement, statements}
+use Rattle.wac_types_names.specs.InterfaceNames.{is_exportable, is_extern_name}
+use Rattle.wac_parser_resolve.specs.Saying.{asked, identified, written_name, told_name, import_name, import_called, not_imported, with_import, import_statement, not_exported, with_definition, declaration, type_id, declared_id, no_definition, new_export, exported, export_name, export_one, export_left, export_as, expr_span, statement, statements}
 use Rattle.wac_parser_resolve.proofs.AlikeStates.{bare_bound, bare_asked, bare_exports, over, bare_over, scope_bare, context_bare, IsSaidAlike, bound_alike, spoken_over, spoken_bare}
 use Rattle.wac_parser_resolve.proofs.AlikeExpressions.{AreHeld, back_held, front_held, needs_instance_alike, export_named_alike, denote_alike}
 

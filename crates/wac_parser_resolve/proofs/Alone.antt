@@ -23,7 +23,8 @@ use Rattle.wac_parser_resolve.specs.Ascribing.{Denoted, imported, defined, Impor
 use Rattle.wac_parser_resolve.specs.Askers.{Definitions_ask_nothing}
 use Rattle.wac_parser_resolve.specs.Denoting.{denote, export_named, needs_instance}
 use Rattle.wac_parser_resolve.specs.Meeting.{target}
-use Rattle.wac_parser_resolve.specs.Saying.{asked, import_name, import_called, not_imported, is_extern_name, is_exportable, no_definition, new_export, export_name, written_name, with_import, import_statement, not_exported, with_definition, declaration, declared_id, export_as, exported, export_one, export_left, expr_span, statement, statements}
+use Rattle.wac_types_names.specs.InterfaceNames.{is_exportable, is_extern_name}
+use Rattle.wac_parser_resolve.specs.Saying.{asked, import_name, import_called, not_imported, no_definition, new_export, export_name, written_name, with_import, import_statement, not_exported, with_definition, declaration, declared_id, export_as, exported, export_one, export_left, expr_span, statement, statements}
 use Rattle.wac_parser_resolve.proofs.Alike.{alike_speak}
 use Rattle.wac_parser_resolve.proofs.Answers.{err_ok, ok_of, then_ok, ok_is, each_keeps}
 use Rattle.wac_parser_resolve.proofs.Behind.{alike_denote}

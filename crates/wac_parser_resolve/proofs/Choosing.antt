@@ -12,27 +12,16 @@ use Rattle.wac_types_base.specs.Graph.{Among}
 use Rattle.wac_types_names.specs.Keys.{Key, key_text}
 use Rattle.wac_types_names.specs.Tracks.{IsOnTrack, lookup_key}
 use Rattle.wac_types_names.specs.Versions.{version_cmp}
+use Rattle.wac_types_names.proofs.Latest.{gt_is, gt_not}
+use Rattle.wac_types_names.proofs.TrackLaws.{keyed}
 use Rattle.wac_types_names.proofs.VersionOrder.{greater_trans, version_anti, version_total}
 use Rattle.wac_parser_resolve.specs.Choosing.{Choices_are_greatest, IsGreatest, IsThere, greatest_from, greatest_on, is_key, later, track_key, version_on}
 use Rattle.wac_parser_resolve.proofs.TrackedNames.{tracked}
-
-abbrev keyed : Name → Parts → Option (Name × Parts)
-keyed n p = Some (n, p)
 
 -- ---- the order
 
 abbrev Below : Parts → Parts → Type 0
 Below v w = version_cmp v w ≢ Greater
-
-gt_is : (r : Ordering) → is_gt r ≡ true → r ≡ Greater
-gt_is Less e = cc e
-gt_is Equal e = cc e
-gt_is Greater e = refl
-
-gt_not : (r : Ordering) → is_gt r ≡ false → r ≢ Greater
-gt_not Less e g = cc g
-gt_not Equal e g = cc g
-gt_not Greater e g = cc e
 
 below_self : (v : Parts) → Below v v
 below_self v = turned (version_cmp v v) (version_total.antisymm v v)

@@ -12,7 +12,7 @@ use Rattle.wac_types_base.specs.Graph.{Among}
 use Rattle.wac_types_base.specs.Stated.{Stated}
 use Rattle.wac_types_base.proofs.Replacing.{number_same}
 use Rattle.wac_types_fit.proofs.Items.{value_at-among}
-use Rattle.wac_graph_core.specs.declared.errors.DefineTypeError.{DefineTypeError}
+use Rattle.wac_graph_core.specs.declared.error.DefineTypeError.{DefineTypeError}
 use Rattle.wac_graph_core.specs.Defining.{DefineRefused, DefinesType}
 use Rattle.wac_graph_core.specs.Nodes.{NodeData, defined_node}
 use Rattle.wac_graph_core.specs.NodeMaps.{IsImport}
@@ -34,7 +34,8 @@ use Rattle.wac_parser_resolve.specs.Holding.{AreNamed, Denotes, HasItem, InTurn,
 use Rattle.wac_parser_resolve.specs.InStatements.{NotesExport, definition_cause, noted_export}
 use Rattle.wac_parser_resolve.specs.Later.{IsWithin, Later, first_name}
 use Rattle.wac_parser_resolve.specs.Said.{AreAsked, AreDeclared, AreExported, IsAsked, IsDeclared, IsNoted, IsSaid, last_noted}
-use Rattle.wac_parser_resolve.specs.Saying.{declaration, export_span, is_extern_name, not_exported, with_definition}
+use Rattle.wac_types_names.specs.InterfaceNames.{is_extern_name}
+use Rattle.wac_parser_resolve.specs.Saying.{declaration, export_span, not_exported, with_definition}
 use Rattle.wac_parser_resolve.proofs.Exporting.{export_place, last_is, one_thing, first_new}
 use Rattle.wac_parser_resolve.proofs.Growing.{Later-define}
 use Rattle.wac_parser_resolve.proofs.Importing.{extern_name, last_other, no_extern_name}

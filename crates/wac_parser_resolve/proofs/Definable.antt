@@ -5,7 +5,7 @@ use Rattle.wac_types_base.specs.declared.item.ItemKind.{ItemKind}
 use Rattle.wac_types_base.specs.declared.item.«Type».{«Type» as TypeKind}
 use Rattle.wac_types_base.specs.Collection.{Stands}
 use Rattle.wac_types_base.specs.Entries.{Name}
-use Rattle.wac_graph_core.specs.declared.errors.DefineTypeError.{DefineTypeError}
+use Rattle.wac_graph_core.specs.declared.error.DefineTypeError.{DefineTypeError}
 use Rattle.wac_graph_core.specs.Defining.{DefineRefused, IsDefinable}
 use Rattle.wac_graph_core.specs.Graph.{Graph, IsGraph}
 use Rattle.wac_graph_core.specs.NodeMaps.{NodeMap}

@@ -16,7 +16,7 @@ use Rattle.wac_types_base.specs.Collection.{IsAcyclic}
 use Rattle.wac_types_base.specs.Entries.{Name, names_of, texts_of, value_at}
 use Rattle.wac_types_base.specs.Graph.{Among}
 use Rattle.wac_types_base.specs.Stated.{Stated, desc, exports_of, kind_of, stated_of}
-use Rattle.wac_graph_core.specs.declared.errors.ExportError.{ExportError}
+use Rattle.wac_graph_core.specs.declared.error.ExportError.{ExportError}
 use Rattle.wac_graph_core.specs.declared.ids.PackageId.{PackageId}
 use Rattle.wac_graph_core.specs.Nodes.{NodeData, Role}
 use Rattle.wac_graph_core.specs.NodeMaps.{IsImport}
@@ -48,7 +48,8 @@ use Rattle.wac_parser_resolve.specs.InExpressions.{SaysThat}
 use Rattle.wac_parser_resolve.specs.Knowing.{handed_under, content_in}
 use Rattle.wac_parser_resolve.specs.Later.{AddsNone, Inner, IsWithin, Later}
 use Rattle.wac_parser_resolve.specs.Said.{AreExported, IsAsked, IsDeclared, IsNoted, IsSaid, last_noted}
-use Rattle.wac_parser_resolve.specs.Saying.{export_left, export_name, export_one, export_span, exported, is_exportable, new_export, no_definition, written_name}
+use Rattle.wac_types_names.specs.InterfaceNames.{is_exportable}
+use Rattle.wac_parser_resolve.specs.Saying.{export_left, export_name, export_one, export_span, exported, new_export, no_definition, written_name}
 use Rattle.wac_parser_resolve.specs.Told.{IsInferred, IsInferredBy}
 use Rattle.wac_parser_resolve.proofs.Exporting.{export_place, exportable, one_thing, unexportable}
 use Rattle.wac_parser_resolve.proofs.Growing.{Later-export}

@@ -2,14 +2,14 @@
 use Rattle.std.specs.Prelude.{bytes_eq, option_map, unwrap_or}
 use Rattle.std.proofs.Common.{◌≡◌, ℕ, List, [], ◌∷◌, ◌++◌, Bool, true, false, ◌==◌, if◌then◌else◌, Option, Some, None, IsSome, is_some, inl, inr, refl, sym, ap, subst, ◌∙◌}
 use Rattle.std.specs.Cmp.Lexicographic.{bytes_decides}
-use Rattle.std.proofs.lemmas.Bool.{or_left, or_right, false_from_ne_true, and_from}
+use Rattle.std.proofs.lemmas.Bool.{or_left, or_right, false_from_ne_true, and_from, or_cases}
 use Rattle.wac_types_base.specs.declared.item.«Type».{«Type» as TypeKind}
 use Rattle.wac_types_base.specs.Entries.{Name, AreDistinct, value_at}
 use Rattle.wac_types_base.specs.Graph.{Among}
 use Rattle.wac_types_base.proofs.Replacing.{same_number, number_same}
 use Rattle.wac_names.specs.declared.names.NameKind.TheVariants as kind
 use Rattle.wac_names.specs.NameTests.{plain_test}
-use Rattle.wac_names.proofs.NameKinds.{plain_decides, or_parts}
+use Rattle.wac_names.proofs.NameKinds.{plain_decides}
 use Rattle.wac_types_names.specs.InterfaceNames.{is_interface_name}
 use Rattle.wac_graph_core.specs.Nodes.{NodeData, Role}
 use Rattle.wac_graph_core.specs.Defining.{DefinesType}
@@ -27,7 +27,8 @@ use Rattle.wac_parser_resolve.specs.Holding.{AreNamed, InTurn, IsNode}
 use Rattle.wac_parser_resolve.specs.InExports.{IsBoundTo, IsDefined, is_defined}
 use Rattle.wac_parser_resolve.specs.Later.{first_name}
 use Rattle.wac_parser_resolve.specs.Said.{IsNoted, last_noted}
-use Rattle.wac_parser_resolve.specs.Saying.{is_exportable, last_span}
+use Rattle.wac_types_names.specs.InterfaceNames.{is_exportable}
+use Rattle.wac_parser_resolve.specs.Saying.{last_span}
 use Rattle.wac_types_names.proofs.InterfaceTests.{interface_told}
 use Rattle.wac_parser_resolve.proofs.Nodes.{RoleTold, same_node, told_role}
 use Rattle.wac_parser_resolve.proofs.Rooted.{AreFound, both_found}
@@ -44,7 +45,7 @@ exportable n (kind.Url, k, is) = absurd k
 exportable n (kind.Hash, k, is) = absurd k
 
 pub unexportable : (n : Name) → (IsExportName n → ⊥) → is_exportable n ≡ false
-unexportable n h = false_from_ne_true (is_exportable n) (λ e. elim (or_parts (plain_test n) (is_interface_name n) e) [
+unexportable n h = false_from_ne_true (is_exportable n) (λ e. elim (or_cases (plain_test n) (is_interface_name n) e) [
   | inl p ↦ h (kind.Plain, tt, (plain_decides n).0 p)
   | inr i ↦ h (kind.Interface, tt, (interface_told n).0 i)
 ])

@@ -9,7 +9,7 @@ use Rattle.wac_graph_core.specs.declared.edge.Follow.{Follow}
 use Rattle.wac_graph_core.specs.Nodes.{Role, plain_node}
 use Rattle.wac_graph_core.specs.Edges.{Reaches, at_start, along}
 use Rattle.wac_graph_core.specs.Graph.{Graph, node_at, ContainsNode, package_of, package_made, instantiated, IsGraph}
-use Rattle.wac_graph_core.specs.declared.errors.InstantiationArgumentError.{InstantiationArgumentError}
+use Rattle.wac_graph_core.specs.declared.error.InstantiationArgumentError.{InstantiationArgumentError}
 use Rattle.wac_graph_core.specs.Refusals.{ArgumentRefused}
 use Rattle.wac_graph_core.specs.Steps.{Instantiates, SetsArgument}
 use Rattle.wac_graph_core.proofs.NodeMap.{get-insert_same}

@@ -1,6 +1,6 @@
 -- Import statements: the names that they may have, the place of an earlier import, and what is said behind one.
 use Rattle.std.specs.Prelude.{Result, ⊤, bytes_eq, codes, cond, is_none, is_some, option_map, string_bytes, unwrap_or}
-use Rattle.std.proofs.Common.{◌≡◌, ◌≢◌, ◌⊎◌, ℕ, List, [], ◌∷◌, ◌++◌, Bool, true, false, not, ◌&&◌, ◌==◌, if◌then◌else◌, Option, Some, None, inl, inr, refl, sym, ap, subst, ◌∙◌, ◌<◌, IsSome}
+use Rattle.std.proofs.Common.{◌≡◌, ◌≢◌, ◌⊎◌, ℕ, List, [], ◌∷◌, ◌++◌, Bool, true, false, not, ◌==◌, if◌then◌else◌, Option, Some, None, inl, inr, refl, sym, ap, subst, ◌∙◌, ◌<◌, IsSome}
 use Rattle.std.specs.Bool.{Decides}
 use Rattle.std.specs.List.{AllByRecursion, list_any}
 use Rattle.std.specs.Cmp.Lexicographic.{bytes_decides}
@@ -14,11 +14,9 @@ use Rattle.wac_types_base.specs.Stated.{Stated, promote}
 use Rattle.wac_types_base.proofs.Replacing.{same_number, number_same}
 use Rattle.wac_names.specs.declared.names.NameKind.TheVariants as kind
 use Rattle.wac_names.specs.ComponentNames.{IsInside}
-use Rattle.wac_names.specs.NameTests.{behind_test}
 use Rattle.wac_names.proofs.NameForms.{behind_decides}
-use Rattle.std.proofs.lemmas.Bool.{or_right, not_from_false, not-true, false_from_ne_true, and_from}
-use Rattle.wac_names.proofs.NameKinds.{or_left, or_parts}
-use Rattle.wac_graph_core.specs.declared.errors.ImportError.{ImportError}
+use Rattle.std.proofs.lemmas.Bool.{and_parts, or_right, not_from_false, not-true, false_from_ne_true, and_from, or_left, or_cases}
+use Rattle.wac_graph_core.specs.declared.error.ImportError.{ImportError}
 use Rattle.wac_graph_core.specs.Nodes.{NodeData, Role, plain_node}
 use Rattle.wac_graph_core.specs.NodeMaps.{IsImport, NoImport, Rises}
 use Rattle.wac_graph_core.specs.Graph.{Graph, IsGraph, node_at}
@@ -38,10 +36,12 @@ use Rattle.wac_parser_resolve.specs.declared.state.State.{State as Held}
 use Rattle.wac_parser_resolve.specs.Ascribing.{Denoted, Import, State, bound, imported}
 use Rattle.std.specs.Option.{option_or}
 use Rattle.wac_parser_resolve.specs.Holding.{Denotes, HasItem, InTurn}
-use Rattle.wac_parser_resolve.specs.InStatements.{NotesImport, import_cause, says_import}
+use Rattle.wac_parser_resolve.specs.InStatements.{NotesImport, import_cause}
 use Rattle.wac_parser_resolve.specs.Later.{IsWithin, Later}
 use Rattle.wac_parser_resolve.specs.Said.{AreAsked, IsAsked, IsSaid, last_noted}
-use Rattle.wac_parser_resolve.specs.Saying.{asked, ended, import_called, inside_test, is_bracketed_name, is_exportable, is_extern_name, not_imported, with_import}
+use Rattle.wac_names.specs.NameTests.{behind_test, bracketed_test, ended, inside_test}
+use Rattle.wac_types_names.specs.InterfaceNames.{is_exportable, is_extern_name}
+use Rattle.wac_parser_resolve.specs.Saying.{add_import, asked, import_called, not_imported, with_import}
 use Rattle.wac_parser_resolve.proofs.Exporting.{exportable, unexportable}
 use Rattle.wac_parser_resolve.proofs.Growing.{Later-import}
 use Rattle.wac_parser_resolve.proofs.Instances.{among_named}
@@ -53,10 +53,6 @@ use Rattle.wac_graph_core.proofs.Rising.{rises_apart, rises_more}
 
 -- ---- names of imports and definitions
 
-both_true : (a b : Bool) → (a && b) ≡ true → (a ≡ true) × (b ≡ true)
-both_true true b e = (refl, e)
-both_true false b e = absurd (cc e)
-
 abbrev Unbroken : List ℕ → Type 0
 Unbroken bs = AllByRecursion (λ b. (b == 60) ≡ false) bs
 
@@ -64,7 +60,7 @@ ended_told : (bs : List ℕ) → ended bs ≡ true → (xs : List ℕ) × (bs �
 ended_told [] e = absurd (cc e)
 ended_told (b ∷ []) e = ([], ap (λ c. c ∷ []) (same_number b 62 e), tt)
 ended_told (b ∷ c ∷ cs) e =
-    let p = both_true (not (b == 60)) (ended (c ∷ cs)) e in
+    let p = and_parts (not (b == 60)) (ended (c ∷ cs)) e in
     let r = ended_told (c ∷ cs) p.1 in
     (b ∷ r.0, ap (λ bs. b ∷ bs) r.1, (not-true (b == 60) p.0, r.2))
 
@@ -76,7 +72,7 @@ ended_from (b ∷ c ∷ cs) u = and_from (not (b == 60)) (ended (c ∷ cs ++ 62 
 inside_told : (bs : List ℕ) → inside_test bs ≡ true → IsInside bs
 inside_told [] e = absurd (cc e)
 inside_told (b ∷ bs) e =
-    let p = both_true (not (b == 60)) (ended bs) e in
+    let p = and_parts (not (b == 60)) (ended bs) e in
     let r = ended_told bs p.1 in
     record { inside = b ∷ r.0; is = ap (λ cs. b ∷ cs) r.1; some = λ q. absurd (cc q); unbroken = (not-true (b == 60) p.0, r.2) }
 
@@ -93,7 +89,7 @@ behind front n = behind_test front inside_test n
 abbrev rest_of : List (List ℕ) → Name → Bool
 rest_of fronts n = list_any (λ front. behind front n) fronts
 
-bracketed : (n : Name) → IsExternName n → is_exportable n ≡ false → is_bracketed_name n ≡ true
+bracketed : (n : Name) → IsExternName n → is_exportable n ≡ false → bracketed_test n ≡ true
 bracketed n (kind.Plain, is) e = absurd (cc (sym e ∙ exportable n (kind.Plain, tt, is)))
 bracketed n (kind.Interface, is) e = absurd (cc (sym e ∙ exportable n (kind.Interface, tt, is)))
 bracketed n (kind.Dependency, inl is) e = or_left (behind (codes "unlocked-dep=<") n) _ ((behind_decides (codes "unlocked-dep=<") inside_test IsInside inside_decides n).1 is)
@@ -105,14 +101,14 @@ bracketed n (kind.Hash, is) e =
     or_right (behind (codes "unlocked-dep=<") n) _ (or_right (behind (codes "locked-dep=<") n) _ (or_right (behind (codes "url=<") n) _ (or_left (behind (codes "integrity=<") n) _
     ((behind_decides (codes "integrity=<") inside_test IsInside inside_decides n).1 is))))
 
-bracketed_told : (n : Name) → is_bracketed_name n ≡ true → IsExternName n
-bracketed_told n e = elim (or_parts (behind (codes "unlocked-dep=<") n) _ e) [
+bracketed_told : (n : Name) → bracketed_test n ≡ true → IsExternName n
+bracketed_told n e = elim (or_cases (behind (codes "unlocked-dep=<") n) _ e) [
   | inl a ↦ (kind.Dependency, inl ((behind_decides (codes "unlocked-dep=<") inside_test IsInside inside_decides n).0 a))
-  | inr f ↦ elim (or_parts (behind (codes "locked-dep=<") n) _ f) [
+  | inr f ↦ elim (or_cases (behind (codes "locked-dep=<") n) _ f) [
     | inl a ↦ (kind.Dependency, inr ((behind_decides (codes "locked-dep=<") inside_test IsInside inside_decides n).0 a))
-    | inr g ↦ elim (or_parts (behind (codes "url=<") n) _ g) [
+    | inr g ↦ elim (or_cases (behind (codes "url=<") n) _ g) [
       | inl a ↦ (kind.Url, (behind_decides (codes "url=<") inside_test IsInside inside_decides n).0 a)
-      | inr h ↦ elim (or_parts (behind (codes "integrity=<") n) false h) [
+      | inr h ↦ elim (or_cases (behind (codes "integrity=<") n) false h) [
         | inl a ↦ (kind.Hash, (behind_decides (codes "integrity=<") inside_test IsInside inside_decides n).0 a)
         | inr a ↦ absurd (cc a)
       ]
@@ -125,14 +121,14 @@ pub extern_name : (n : Name) → IsExternName n → is_extern_name n ≡ true
 extern_name n is = by (is_exportable n) refl
   where
     by : (b : Bool) → is_exportable n ≡ b → is_extern_name n ≡ true
-    by true e = or_left (is_exportable n) (is_bracketed_name n) e
-    by false e = or_right (is_exportable n) (is_bracketed_name n) (bracketed n is e)
+    by true e = or_left (is_exportable n) (bracketed_test n) e
+    by false e = or_right (is_exportable n) (bracketed_test n) (bracketed n is e)
 
 export_extern : (n : Name) → is_exportable n ≡ true → (IsExternName n → ⊥) → ⊥
 export_extern n e not_so = absurd (cc (sym e ∙ unexportable n (λ x. not_so (x.0, x.2))))
 
 pub no_extern_name : (n : Name) → (IsExternName n → ⊥) → is_extern_name n ≡ false
-no_extern_name n not_so = false_from_ne_true (is_extern_name n) (λ e. elim (or_parts (is_exportable n) (is_bracketed_name n) e) [
+no_extern_name n not_so = false_from_ne_true (is_extern_name n) (λ e. elim (or_cases (is_exportable n) (bracketed_test n) e) [
   | inl a ↦ export_extern n a not_so
   | inr a ↦ not_so (bracketed_told n a)
 ])
@@ -223,7 +219,7 @@ module _ (own : t.PackageName) (b : Held) (s : State) (said : IsSaid own b s) (x
   -- the graph refuses it
   refused_by : (o : Option Import) (c : Bool) (e : Refusal) → import_called s.imports n.string ≡ o → is_extern_name n.string ≡ c
       → IsRefusal (not_imported o n (is_none x.name) >> (unless_clear (not c) (InvalidExternName n.string ExternKind.Import) n.span >> bound (with_import s one) x.id here)) e
-      → IsRefusal (says_import s x n item) e
+      → IsRefusal (add_import s x n item) e
   refused_by o c e called valid r =
       subst (λ (p : Option Import). IsRefusal (not_imported p n (is_none x.name) >> (unless_clear (not (is_extern_name n.string)) (InvalidExternName n.string ExternKind.Import) n.span >> bound (with_import s one) x.id here)) e) (sym called)
       (subst (λ (d : Bool). IsRefusal (not_imported o n (is_none x.name) >> (unless_clear (not d) (InvalidExternName n.string ExternKind.Import) n.span >> bound (with_import s one) x.id here)) e) (sym valid) r)
@@ -232,7 +228,7 @@ module _ (own : t.PackageName) (b : Held) (s : State) (said : IsSaid own b s) (x
   no_cause (Refusal.Named f) h = subst IsMemory (sym h) tt
   no_cause Refusal.Memory h = tt
 
-  pub import_refused : IsGraph g → (fault : ImportError) (e : Refusal) → ImportRefused g n.string fault → Names e (import_cause b.imports.noted.items n.span (is_none x.name) fault) → IsRefusal (says_import s x n item) e
+  pub import_refused : IsGraph g → (fault : ImportError) (e : Refusal) → ImportRefused g n.string fault → Names e (import_cause b.imports.noted.items n.span (is_none x.name) fault) → IsRefusal (add_import s x n item) e
   import_refused sound (ImportError.ImportAlreadyExists m k) e r names =
       let c = called_in g b.ids.noted.items n.string sound k r.1 s.imports b.imports.noted.items said.imports.are (rises_apart (names_of b.imports.noted.items) said.imports.rising) (said.imports.all k n.string r.1) in
       let one_told = told e (DuplicateExternName (string_bytes m) ExternKind.Import (unwrap_or (last_noted b.imports.noted.items k) n.span) (is_none x.name)) (Some n.span) names in
@@ -243,7 +239,7 @@ module _ (own : t.PackageName) (b : Held) (s : State) (said : IsSaid own b s) (x
       let one_told = told e (InvalidExternName (string_bytes m) ExternKind.Import) (Some n.span) names in
       refused_by None false e (none_called g b.ids.noted.items n.string r.1 s.imports b.imports.noted.items said.imports.are) (no_extern_name n.string r.2)
       (subst (λ (z : Name). Tells (cause_in e) (plainly (InvalidExternName z ExternKind.Import) (Some n.span))) r.0 one_told)
-  import_refused sound ImportError.Memory e r names = memory_refusal (says_import s x n item) e (no_cause e names)
+  import_refused sound ImportError.Memory e r names = memory_refusal (add_import s x n item) e (no_cause e names)
 
   -- it is there
   module _ (h : Graph) (k : ℕ) (made : Imports g h n.string kind k) where
@@ -345,7 +341,7 @@ module _ (own : t.PackageName) (b : Held) (s : State) (said : IsSaid own b s) (x
     pub import_said : (a : Held) → NotesImport (with_types b (with_graph b.board.types h)) a k n.span x.id.span → IsSaid own a (with_import s one)
     import_said a notes = subst (λ (z : Held). IsSaid own z (with_import s one)) (sym notes.rest) (said_noted a notes.imports notes.ids)
 
-    pub import_outcome : (H : State → ⊤ → Type 0) (r : Result ⊤ Refusal) → IsOutcome H (bound (with_import s one) x.id here) r → IsOutcome H (says_import s x n item) r
+    pub import_outcome : (H : State → ⊤ → Type 0) (r : Result ⊤ Refusal) → IsOutcome H (bound (with_import s one) x.id here) r → IsOutcome H (add_import s x n item) r
     import_outcome H r o =
         subst (λ (p : Option Import). IsOutcome H (not_imported p n (is_none x.name) >> (unless_clear (not (is_extern_name n.string)) (InvalidExternName n.string ExternKind.Import) n.span >> bound (with_import s one) x.id here)) r)
         (sym (none_called g ids n.string made.none s.imports noted said.imports.are))
@@ -361,7 +357,7 @@ helped_by f (Some a) false e = refl
 
 -- what follows the name of an import
 abbrev pub import_behind : State → t.ImportStatement → t.Ident → Answer State
-import_behind s x n = asked s x.ty >>= λ item. says_import s x n (promote item)
+import_behind s x n = asked s x.ty >>= λ item. add_import s x n (promote item)
 
 pub ident_is : (i : t.Ident) (text : Name) (at : Span) → text ≡ i.string → at ≡ i.span → ◌≡◌ {A = t.Ident} (record { string = text; span = at }) i
 ident_is i text at e f = λ j. record { string = e j; span = f j }

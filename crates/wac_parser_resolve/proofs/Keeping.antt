@@ -1,6 +1,7 @@
 -- What stays while packages come into a graph.
 use Rattle.std.proofs.Common.{◌≡◌, ◌≢◌, List, [], ◌∷◌, ◌++◌, length, Some, Result, Ok, Err, OnOk, IfOk, OnErr, refl, sym, ap, subst, ◌∙◌, slice_get, slice_set}
 use Rattle.wac_types_base.specs.Record.{Collection}
+use Rattle.wac_types_base.specs.Kept.{keeping as keeping_so}
 use Rattle.wac_types_base.specs.Collection.{Grows, IsAcyclic, Stands, item_node, defined_entry, resource_entry, func_entry, interface_entry, world_entry}
 use Rattle.wac_types_base.proofs.Adding.{Grows-refl, Grows-trans}
 use Rattle.wac_types_base.proofs.GraphLemmas.{is_there}
@@ -105,27 +106,27 @@ Keeps-by g h p (Err e) a f k = subst (Keeps g) (sym k) (Keeps-refl g a)
 -- ---- what is added through a graph
 
 module _ (g h : Graph) where
-  pub lent_defined : (x : DefinedType) (r : Result DefinedTypeId AllocError) → OnOk r (h ≡ with_collection g (record g.types { defined_types = g.types.defined_types ++ x ∷ [] })) → IfOk r (λ i. i ≡ record { collection = g.types.number; index = length g.types.defined_types })
+  pub lent_defined : (x : DefinedType) (r : Result DefinedTypeId AllocError) → OnOk r (h ≡ with_collection g (keeping_so h.types.kept (record g.types { defined_types = g.types.defined_types ++ x ∷ [] }))) → IfOk r (λ i. i ≡ record { collection = g.types.number; index = length g.types.defined_types })
       → IfOk r (λ i. item_node h.types (ItemKind.Value (ValueType.Defined i)) ≡ Some (defined_entry x))
   lent_defined x (Ok i) e id = defined_added g.types h.types x (Ok i) (ap (λ (y : Graph). y.types) e) id
   lent_defined x (Err f) e id = tt
 
-  pub lent_resource : (x : Resource) (r : Result ResourceId AllocError) → OnOk r (h ≡ with_collection g (record g.types { resources = g.types.resources ++ x ∷ [] })) → IfOk r (λ i. i ≡ record { collection = g.types.number; index = length g.types.resources })
+  pub lent_resource : (x : Resource) (r : Result ResourceId AllocError) → OnOk r (h ≡ with_collection g (keeping_so h.types.kept (record g.types { resources = g.types.resources ++ x ∷ [] }))) → IfOk r (λ i. i ≡ record { collection = g.types.number; index = length g.types.resources })
       → IfOk r (λ i. item_node h.types (ItemKind.Ty (TypeKind.Resource i)) ≡ Some (resource_entry x))
   lent_resource x (Ok i) e id = resource_added g.types h.types x (Ok i) (ap (λ (y : Graph). y.types) e) id
   lent_resource x (Err f) e id = tt
 
-  pub lent_func : (x : FuncType) (r : Result FuncTypeId AllocError) → OnOk r (h ≡ with_collection g (record g.types { func_types = g.types.func_types ++ x ∷ [] })) → IfOk r (λ i. i ≡ record { collection = g.types.number; index = length g.types.func_types })
+  pub lent_func : (x : FuncType) (r : Result FuncTypeId AllocError) → OnOk r (h ≡ with_collection g (keeping_so h.types.kept (record g.types { func_types = g.types.func_types ++ x ∷ [] }))) → IfOk r (λ i. i ≡ record { collection = g.types.number; index = length g.types.func_types })
       → IfOk r (λ i. item_node h.types (ItemKind.Func i) ≡ Some (func_entry x))
   lent_func x (Ok i) e id = func_added g.types h.types x (Ok i) (ap (λ (y : Graph). y.types) e) id
   lent_func x (Err f) e id = tt
 
-  pub lent_interface : (x : Interface) (r : Result InterfaceId AllocError) → OnOk r (h ≡ with_collection g (record g.types { interfaces = g.types.interfaces ++ x ∷ [] })) → IfOk r (λ i. i ≡ record { collection = g.types.number; index = length g.types.interfaces })
+  pub lent_interface : (x : Interface) (r : Result InterfaceId AllocError) → OnOk r (h ≡ with_collection g (keeping_so h.types.kept (record g.types { interfaces = g.types.interfaces ++ x ∷ [] }))) → IfOk r (λ i. i ≡ record { collection = g.types.number; index = length g.types.interfaces })
       → IfOk r (λ i. item_node h.types (ItemKind.Instance i) ≡ Some (interface_entry x))
   lent_interface x (Ok i) e id = interface_added g.types h.types x (Ok i) (ap (λ (y : Graph). y.types) e) id
   lent_interface x (Err f) e id = tt
 
-  pub lent_world : (x : World) (r : Result WorldId AllocError) → OnOk r (h ≡ with_collection g (record g.types { worlds = g.types.worlds ++ x ∷ [] })) → IfOk r (λ i. i ≡ record { collection = g.types.number; index = length g.types.worlds })
+  pub lent_world : (x : World) (r : Result WorldId AllocError) → OnOk r (h ≡ with_collection g (keeping_so h.types.kept (record g.types { worlds = g.types.worlds ++ x ∷ [] }))) → IfOk r (λ i. i ≡ record { collection = g.types.number; index = length g.types.worlds })
       → IfOk r (λ i. item_node h.types (ItemKind.Component i) ≡ Some (world_entry x))
   lent_world x (Ok i) e id = world_added g.types h.types x (Ok i) (ap (λ (y : Graph). y.types) e) id
   lent_world x (Err f) e id = tt

@@ -15,7 +15,7 @@ use Rattle.wac_types_base.specs.Resolving.{promoted}
 use Rattle.wac_types_base.specs.Stated.{Stated, desc, promote, stated_of}
 use Rattle.wac_types_base.proofs.Telling.{promote_stated}
 use Rattle.wac_types_base.proofs.Used.{drop_next}
-use Rattle.wac_types_fit.specs.declared.errors.SubtypeError.{SubtypeError}
+use Rattle.wac_types_fit.specs.declared.error.SubtypeError.{SubtypeError}
 use Rattle.wac_types_fit.specs.declared.checker.SubtypeCheck.{SubtypeCheck}
 use Rattle.wac_types_fit.specs.Errors.{IfMismatch, IfSaid, refusal, said, steps, words_of}
 use Rattle.wac_types_fit.specs.Frames.{Disagree}

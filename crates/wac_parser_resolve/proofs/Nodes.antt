@@ -2,6 +2,7 @@
 use Rattle.std.proofs.Common.{◌≡◌, ℕ, List, Bool, true, false, ◌&&◌, Option, Some, None, IsSome, refl, sym, ap, subst, ◌∙◌, arith}
 use Rattle.std.specs.Prelude.{slice_get, ◌==◌, bytes_eq}
 use Rattle.std.specs.Cmp.Lexicographic.{bytes_decides}
+use Rattle.std.proofs.lemmas.Bool.{and_parts}
 use Rattle.std.proofs.lemmas.Bool.Decides.{nat_tests}
 use Rattle.wac_types_base.specs.declared.item.ItemKind.{ItemKind}
 use Rattle.wac_types_base.specs.Entries.{Name, AreDistinct, value_at}
@@ -117,10 +118,6 @@ module _ (g : Graph) (is : IsGraph g) where
     number_is : (i j : ℕ) → i ≡ j → (i == j) ≡ true
     number_is i j e = grind (arith, nat_tests)
 
-    both_true : (a b : Bool) → (a && b) ≡ true → (a ≡ true) × (b ≡ true)
-    both_true true b e = (refl, e)
-    both_true false b e = absurd (cc e)
-
     true_both : (a b : Bool) → a ≡ true → b ≡ true → (a && b) ≡ true
     true_both true b e f = f
     true_both false b e f = absurd (cc e)
@@ -134,7 +131,7 @@ module _ (g : Graph) (is : IsGraph g) where
     same_node (instance i) (instance l) j k e a b =
         let s : i ≡ l = number_same i l e in one_found (slice_get ms l) j k (ap (slice_get ms) (sym s) ∙ a.0) b.0
     same_node (projected o m) (projected p n) j k e a b =
-        let s = both_true (same_origin o p) (bytes_eq m n) e in
+        let s = and_parts (same_origin o p) (bytes_eq m n) e in
         let from : a.0 ≡ b.0 = same_node o p a.0 b.0 s.0 a.1 b.1 in
         let name : m ≡ n = (bytes_decides m n).0 s.1 in
         is.keyed.one_alias b.0 j k n (subst (λ (i : ℕ). HasAlias g.edges i n j) from (subst (λ (x : Name). HasAlias g.edges a.0 x j) name a.3)) b.3

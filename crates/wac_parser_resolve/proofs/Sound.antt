@@ -23,7 +23,8 @@ use Rattle.wac_parser_resolve.specs.Ascribing.{Origin, imported, instance, proje
 use Rattle.wac_parser_tree.specs.Accessors.{argument_name_span as argument_span, postfix_expr_span as postfix_span, primary_expr_span as primary_span}
 use Rattle.wac_parser_resolve.specs.Denoting.{Given, given_names, needs_instance, export_by, export_named, access_by, spoken, access, accesses, add_given, inferred_name, argument_name, left_names, spread_given, spread_all, spread_one, spreads_of, compared_by, argument_fits, complete, is_filled, is_last, with_made, finished, key_named, new_package, denote, primary, nested, new_instance, arguments, one_argument, named_argument}
 use Rattle.wac_parser_resolve.specs.Matching.{matched}
-use Rattle.wac_parser_resolve.specs.Saying.{asked, import_name, import_called, not_imported, is_extern_name, with_import, import_statement, not_exported, with_definition, declaration, declared_id, no_definition, new_export, is_exportable, exported, export_name, export_one, export_left, export_as, written_name, expr_span, statement, statements}
+use Rattle.wac_types_names.specs.InterfaceNames.{is_exportable, is_extern_name}
+use Rattle.wac_parser_resolve.specs.Saying.{asked, import_name, import_called, not_imported, with_import, import_statement, not_exported, with_definition, declaration, declared_id, no_definition, new_export, exported, export_name, export_one, export_left, export_as, written_name, expr_span, statement, statements}
 use Rattle.wac_parser_resolve.proofs.Answers.{err_ok, ok_of, then_ok, ok_is, each_keeps}
 use Rattle.wac_parser_resolve.proofs.Numbers.{Below, slice_more, slice_kept, slice_last, slice_below, value_more, among_more, among_last, each_more}
 

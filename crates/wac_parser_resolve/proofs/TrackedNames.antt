@@ -3,7 +3,7 @@ use Rattle.std.proofs.Common.{◌≡◌, ℕ, ◌+◌, ◌%◌, ◌^◌, ◌<◌
 use Rattle.std.specs.Prelude.{◌==◌, ◌&&◌, cond, Option, Some, None, nat_lt, if◌then◌else◌}
 use Rattle.std.specs.List.{AllByRecursion, before_first, after_first, list_all, onto_first, position_or_len}
 use Rattle.std.specs.Fmt.{decimal}
-use Rattle.std.proofs.lemmas.Bool.{cases_lt, eqb-true}
+use Rattle.std.proofs.lemmas.Bool.{and_parts, cases_lt, eqb-true}
 use Rattle.std.proofs.lemmas.Fmt.{decimal_by_steps}
 use Rattle.std.proofs.lemmas.List.{append_cancel_left}
 use Rattle.std.proofs.lemmas.Option.{same_Some}
@@ -17,10 +17,6 @@ use Rattle.wac_types_base.specs.Entries.{Name}
 use Rattle.wac_types_names.specs.Tracks.{IsOnTrack, is_at, key_from, key_with, read_version, track_text}
 use Rattle.wac_types_names.proofs.Places.{NoByte}
 use Rattle.wac_types_names.proofs.TrackTexts.{ParsedAt, around_at, key_at, no_at, one_longer, read-text}
-
-both : (a b : Bool) → (a && b) ≡ true → (a ≡ true) × (b ≡ true)
-both true b e = (refl, e)
-both false b e = absurd (cc e)
 
 -- ---- versions
 
@@ -48,17 +44,17 @@ module _ (c : ℕ) (strange : IsStrange c) where
 
   bytes_lack : (w : List ℕ) → list_all is_identifier_byte w ≡ true → Lacks w
   bytes_lack [] h = tt
-  bytes_lack (b ∷ w) h = let e = both (is_identifier_byte b) (list_all is_identifier_byte w) h in (byte_lacks b e.0, bytes_lack w e.1)
+  bytes_lack (b ∷ w) h = let e = and_parts (is_identifier_byte b) (list_all is_identifier_byte w) h in (byte_lacks b e.0, bytes_lack w e.1)
 
   identifier_lacks : (w : List ℕ) → is_build_identifier w ≡ true → Lacks w
-  identifier_lacks w h = bytes_lack w (both (nat_lt 0 (length w)) (list_all is_identifier_byte w) h).1
+  identifier_lacks w h = bytes_lack w (and_parts (nat_lt 0 (length w)) (list_all is_identifier_byte w) h).1
 
   pre_lacks : (w : List ℕ) → is_pre_identifier w ≡ true → Lacks w
-  pre_lacks w h = identifier_lacks w (both (is_build_identifier w) _ h).0
+  pre_lacks w h = identifier_lacks w (and_parts (is_build_identifier w) _ h).0
 
   all_lack : (f : List ℕ → Bool) → ((w : List ℕ) → f w ≡ true → Lacks w) → (ws : List (List ℕ)) → list_all f ws ≡ true → AllByRecursion Lacks ws
   all_lack f each [] h = tt
-  all_lack f each (w ∷ ws) h = let e = both (f w) (list_all f ws) h in (each w e.0, all_lack f each ws e.1)
+  all_lack f each (w ∷ ws) h = let e = and_parts (f w) (list_all f ws) h in (each w e.0, all_lack f each ws e.1)
 
   -- a text whose parts lack it
   joined_lacks : (w : List ℕ) → AllByRecursion Lacks (parts w) → Lacks w

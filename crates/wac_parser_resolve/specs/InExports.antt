@@ -7,7 +7,7 @@ use Rattle.wac_types_base.specs.declared.ids.InterfaceId.{InterfaceId}
 use Rattle.wac_types_base.specs.Entries.{Name, names_of, value_at}
 use Rattle.wac_types_base.specs.Stated.{exports_of, kind_of, stated_of}
 use Rattle.wac_composition.specs.Classes.{is_instance_kind}
-use Rattle.wac_graph_core.specs.declared.errors.ExportError.{ExportError}
+use Rattle.wac_graph_core.specs.declared.error.ExportError.{ExportError}
 use Rattle.wac_graph_core.specs.Nodes.{NodeData, Role}
 use Rattle.wac_graph_core.specs.Graph.{Graph, node_at}
 use Rattle.wac_parser_tree.specs.Trees as t

@@ -1,13 +1,13 @@
 -- What is answered of statements and their parts: what is said then, over what was said, or the cause.
-use Rattle.std.specs.Prelude.{◌≡◌, ◌∷◌, ◌++◌, [], ℕ, List, Bool, not, Option, Some, None, is_none, map, Result, ⊤, string_bytes, unwrap_or}
+use Rattle.std.specs.Prelude.{◌≡◌, ◌∷◌, ◌++◌, [], ℕ, List, Bool, Option, Some, None, map, Result, ⊤, string_bytes, unwrap_or}
 use Rattle.wac_types_base.specs.declared.item.ExternKind.{ExternKind}
 use Rattle.wac_types_base.specs.declared.item.ItemKind.{ItemKind}
 use Rattle.wac_types_base.specs.declared.item.«Type».{«Type» as TypeKind}
 use Rattle.wac_types_base.specs.Record.{Collection}
 use Rattle.wac_types_base.specs.Entries.{Name, names_of, value_at}
 use Rattle.wac_types_base.specs.Stated.{Stated, kind_of, stated_of}
-use Rattle.wac_graph_core.specs.declared.errors.DefineTypeError.{DefineTypeError}
-use Rattle.wac_graph_core.specs.declared.errors.ImportError.{ImportError}
+use Rattle.wac_graph_core.specs.declared.error.DefineTypeError.{DefineTypeError}
+use Rattle.wac_graph_core.specs.declared.error.ImportError.{ImportError}
 use Rattle.wac_graph_core.specs.Graph.{Graph}
 use Rattle.wac_parser_tree.specs.Trees as t
 use Rattle.wac_parser_tree.specs.Trees.{Span}
@@ -23,7 +23,7 @@ use Rattle.wac_parser_tree.specs.declared.import.PackagePath.{PackagePath}
 use Rattle.wac_parser_tree.specs.Views.{view_func_type, view_ident, view_import_statement, view_import_type}
 use Rattle.wac_parser_tree.specs.Views.{view_inline_interface, view_package_name, view_package_path, view_statement, view_type_statement}
 use Rattle.wac_parser_refusals.specs.declared.refusal.Refusal.{Refusal}
-use Rattle.wac_parser_refusals.specs.Causes.{Answer, Cause, ◌>>◌, each, pure, unless_clear, DeclarationConflict, DuplicateExternName, InvalidExternName}
+use Rattle.wac_parser_refusals.specs.Causes.{Answer, Cause, each, pure, DeclarationConflict, DuplicateExternName, InvalidExternName}
 use Rattle.wac_parser_refusals.specs.Outcomes.{IsOutcome}
 use Rattle.wac_parser_refusals.specs.Views.{at_place}
 use Rattle.wac_parser_declare.specs.Functions.{Names}
@@ -34,10 +34,10 @@ use Rattle.wac_parser_declare.specs.Scope.{named, path_item}
 use Rattle.wac_parser_declare.specs.Worlds as declared
 use Rattle.wac_parser_resolve.specs.declared.state.State.{State as Held}
 use Rattle.wac_parser_resolve.specs.declared.statements.ImportName.{ImportName}
-use Rattle.wac_parser_resolve.specs.Ascribing.{Denoted, State, bound, context, imported, root_scope}
+use Rattle.wac_parser_resolve.specs.Ascribing.{Denoted, State, bound, context, root_scope}
 use Rattle.wac_parser_resolve.specs.Holding.{Denotes}
 use Rattle.wac_parser_resolve.specs.Said.{IsSaid, last_noted}
-use Rattle.wac_parser_resolve.specs.Saying.{asked, identified, import_called, import_name, is_extern_name, not_imported, statement, with_import}
+use Rattle.wac_parser_resolve.specs.Saying.{add_import, asked, identified, import_name, statement}
 
 -- ---- states of the code
 
@@ -120,17 +120,9 @@ IsImportNamed i k at old new r =
     (own : t.PackageName) (s : State) (d : Denoted) → ((b : Held) → NotesImport old b k at i.span → IsSaid own b s)
     → DenotesOn old d k → IsOutcome (λ q u. IsSaid own new q) (bound s (view_ident i) d) r
 
--- an import of this name and item
-abbrev pub says_import : State → t.ImportStatement → t.Ident → Stated → Answer State
-says_import g x n item = do
-  not_imported (import_called g.imports n.string) n (is_none x.name)
-  unless_clear (not (is_extern_name n.string)) (InvalidExternName n.string ExternKind.Import) n.span
-  bound (with_import g (record { name = n.string; item = item; span = n.span; id_span = x.id.span })) x.id
-      (record { origin = imported n.string; item = item })
-
 abbrev pub AddsImport : ImportStatement → Name → Span → ItemKind → Held → Held → Result ⊤ Refusal → Type 0
 AddsImport x n at k old new r = (own : t.PackageName) (item : Stated) → Holds old.board.types.graph.types item k
-    → SaysNext old new (λ s. says_import s (view_import_statement x) (record { string = n; span = at }) item) r own
+    → SaysNext old new (λ s. add_import s (view_import_statement x) (record { string = n; span = at }) item) r own
 
 -- ---- declarations
 

@@ -13,7 +13,7 @@ use Rattle.wac_types_base.specs.Entries.{Name, has_name, names_of, value_at, wit
 use Rattle.wac_types_base.specs.Graph.{Among}
 use Rattle.wac_types_base.specs.Stated.{Stated, desc, exports_of, promote, stated_in, stated_of}
 use Rattle.wac_types_fit.specs.declared.checker.SubtypeCheck.{SubtypeCheck}
-use Rattle.wac_types_fit.specs.declared.errors.SubtypeError.{SubtypeError}
+use Rattle.wac_types_fit.specs.declared.error.SubtypeError.{SubtypeError}
 use Rattle.wac_types_fit.specs.Errors.{words_of}
 use Rattle.wac_types_names.specs.Packaged.{Packaged}
 use Rattle.wac_composition.specs.Tests.{fits}

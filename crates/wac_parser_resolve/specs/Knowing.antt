@@ -6,12 +6,11 @@ use Rattle.std.specs.Coded.{Coded, code_by, coded_list, coded_option, coded_ℕ,
 use Rattle.indexmap.specs.IndexMap.{IndexMap, get_by}
 use Rattle.semver.specs.Parse.{Parts}
 use Rattle.wac_types_base.specs.declared.item.ItemKind.{ItemKind}
-use Rattle.wac_types_base.specs.declared.item.«Type».{«Type» as TypeKind}
 use Rattle.wac_types_base.specs.declared.ids.WorldId.{WorldId}
 use Rattle.wac_types_base.specs.Record.{Collection}
 use Rattle.wac_types_base.specs.Entries.{Name, names_of, value_at}
 use Rattle.wac_types_base.specs.Collection.{empty, item_node}
-use Rattle.wac_types_base.specs.Stated.{Stated, exports_of, kind_of, stated_of}
+use Rattle.wac_types_base.specs.Stated.{Stated, kind_of, stated_of}
 use Rattle.wac_types_names.specs.declared.package.BorrowedPackageKey.{BorrowedPackageKey}
 use Rattle.wac_types_names.specs.Packaged.{Packaged}
 use Rattle.wac_types_names.specs.contracts.package.Package as package_row
@@ -25,7 +24,7 @@ use Rattle.wac_parser_refusals.specs.Causes.{UnknownPackage, present}
 use Rattle.wac_parser_refusals.specs.Outcomes.{IsOutcome}
 use Rattle.wac_parser_tree.specs.Trees.{Span}
 use Rattle.wac_parser_declare.specs.Packages.{Content, HoldsIf, Known, world_if}
-use Rattle.wac_parser_declare.specs.Scope.{definition_by, definitions, only_export}
+use Rattle.wac_parser_declare.specs.Scope.{definition_by, definitions}
 use Rattle.wac_parser_resolve.specs.declared.packages.GraphTypes.{GraphTypes}
 use Rattle.wac_parser_resolve.specs.declared.packages.PackageRef.{PackageRef}
 use Rattle.wac_parser_resolve.specs.Choosing.{version_on}
@@ -141,16 +140,6 @@ abbrev pub IsPackageOf : GraphTypes → Key → Span → Graph → Result Packag
 IsPackageOf g key s new r = IsOutcome (IsPackage new key) (present (world_if (known_in g key)) (UnknownPackage key.0) s) r
 
 -- ---- definitions
-
--- the type of an instance or a component
-abbrev pub IsTypeOf : ItemKind → Option ItemKind → Type 0
-IsTypeOf (ItemKind.Instance i) o = o ≡ Some (ItemKind.Ty (TypeKind.Interface i))
-IsTypeOf (ItemKind.Component w) o = o ≡ Some (ItemKind.Ty (TypeKind.World w))
-IsTypeOf k o = o ≡ None
-
--- what the one export of a world means
-abbrev pub IsOnlyExport : Collection → WorldId → Option ItemKind → Type 0
-IsOnlyExport c w o = HoldsIf c (only_export (exports_of (stated_of c (ItemKind.Ty (TypeKind.World w))))) o
 
 -- what an export defines, if it does
 abbrev pub IsDefinedBy : Collection → ItemKind → Option ItemKind → Type 0

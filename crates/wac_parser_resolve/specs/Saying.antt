@@ -1,12 +1,10 @@
 -- What each statement adds to what the ones before said, or its cause.
-use Rattle.std.specs.Prelude.{Bool, true, false, not, ◌==◌, ◌&&◌, ◌||◌, List, [], ◌∷◌, ◌++◌, Option, Some, None, is_some, is_none, filter, find, codes, ⊤, bytes_eq, unwrap_or, if◌then◌else◌}
+use Rattle.std.specs.Prelude.{Bool, true, false, not, List, [], ◌∷◌, ◌++◌, Option, Some, None, is_some, is_none, filter, find, ⊤, bytes_eq, unwrap_or, if◌then◌else◌}
 use Rattle.wac_types_base.specs.declared.item.ExternKind.{ExternKind}
 use Rattle.wac_types_base.specs.Entries.{Name, value_at, names_of}
 use Rattle.wac_types_base.specs.Stated.{Stated, Kind, IsInstance, IsComponent, kind_of, desc, promote, exports_of, identifier_of}
 use Rattle.wac_types_names.specs.Keys.{Key}
-use Rattle.std.specs.List.{list_any}
-use Rattle.wac_names.specs.NameTests.{plain_test, behind_test}
-use Rattle.wac_types_names.specs.InterfaceNames.{is_interface_name}
+use Rattle.wac_types_names.specs.InterfaceNames.{is_exportable, is_extern_name}
 use Rattle.wac_parser_tree.specs.Trees as t
 use Rattle.wac_parser_tree.specs.Trees.{Span}
 use Rattle.wac_parser_refusals.specs.declared.error.InstanceOperation.{InstanceOperation}
@@ -20,29 +18,6 @@ use Rattle.wac_parser_declare.specs.Worlds.{type_statement}
 use Rattle.wac_parser_resolve.specs.Ascribing.{Origin, imported, defined, Denoted, Import, Bound, State, start, root_scope, context, bound, own_name, same_origin, speak_of, is_own_definition}
 use Rattle.std.specs.Option.{option_or}
 use Rattle.wac_parser_resolve.specs.Denoting.{denote, export_named, instance_identifier, needs_instance}
-
--- ---- names of imports and exports
-
-abbrev pub is_exportable : Name → Bool
-is_exportable n = plain_test n || is_interface_name n
-
--- not empty before the `>` that ends it, and without a `<`
-abbrev pub ended : Name → Bool
-ended [] = false
-ended (b ∷ []) = b == 62
-ended (b ∷ c ∷ cs) = not (b == 60) && ended (c ∷ cs)
-
-abbrev pub inside_test : Name → Bool
-inside_test [] = false
-inside_test (b ∷ bs) = not (b == 60) && ended bs
-
-abbrev pub is_bracketed_name : Name → Bool
-is_bracketed_name n =
-    list_any (λ front. behind_test front inside_test n) (codes "unlocked-dep=<" ∷ codes "locked-dep=<" ∷ codes "url=<"
-    ∷ codes "integrity=<" ∷ [])
-
-abbrev pub is_extern_name : Name → Bool
-is_extern_name n = is_exportable n || is_bracketed_name n
 
 -- ---- import statements
 
@@ -88,14 +63,19 @@ not_imported (Some i) n helped = refuse (DuplicateExternName n.string ExternKind
 abbrev pub with_import : State → Import → State
 with_import g i = record g { imports = g.imports ++ i ∷ [] }
 
+-- an import of this name and item
+abbrev pub add_import : State → t.ImportStatement → t.Ident → Stated → Answer State
+add_import g x n item = do
+  not_imported (import_called g.imports n.string) n (is_none x.name)
+  unless_clear (not (is_extern_name n.string)) (InvalidExternName n.string ExternKind.Import) n.span
+  bound (with_import g (record { name = n.string; item = item; span = n.span; id_span = x.id.span })) x.id
+      (record { origin = imported n.string; item = item })
+
 abbrev pub import_statement : State → t.ImportStatement → Answer State
 import_statement g x = do
   n ← import_name g x
   item ← asked g x.ty
-  not_imported (import_called g.imports n.string) n (is_none x.name)
-  unless_clear (not (is_extern_name n.string)) (InvalidExternName n.string ExternKind.Import) n.span
-  bound (with_import g (record { name = n.string; item = promote item; span = n.span; id_span = x.id.span })) x.id
-      (record { origin = imported n.string; item = promote item })
+  add_import g x n (promote item)
 
 -- ---- where exports stand: one place is kept of each thing, that of its last name
 

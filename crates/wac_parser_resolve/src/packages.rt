@@ -2,11 +2,7 @@
 #![tactic(auto, using(crate::proofs::Knowing::knowing))]
 
 ghost use Rattle.std.specs.Prelude.{◌≡◌, IfOk, IfSome, None, OnErr, OnOk, Some, option_map};
-ghost use Rattle.std.specs.Bool.{Decides};
-ghost use Rattle.wac_names.specs.declared.names.NameKind.TheVariants as kind;
 ghost use Rattle.wac_types_base.specs.declared.item.ItemKind.{ItemKind as Item};
-ghost use Rattle.wac_types_base.specs.declared.item.«Type».{«Type» as TypeKind};
-ghost use Rattle.wac_types_base.specs.declared.ids.WorldId.{WorldId as WorldKey};
 ghost use Rattle.wac_types_base.specs.Collection.{Stands};
 ghost use Rattle.wac_types_base.specs.Entries.{AreDistinct, names_of};
 ghost use Rattle.wac_types_names.specs.Keys.{package_key};
@@ -14,9 +10,8 @@ ghost use Rattle.wac_graph_core.specs.Graph.{ContainsPackage, PackageStands};
 ghost use Rattle.wac_graph_core.specs.Packages.{NoKey, Registers, key_of};
 ghost use Rattle.wac_graph_core.specs.Types.{Enlarges};
 ghost use Rattle.wac_parser_declare.specs.Packages.{SamePackages};
-ghost use Rattle.wac_types_names.specs.InterfaceNames.{is_interface_name};
 ghost use Rattle.wac_parser_resolve.specs.Keeping.{Keeps};
-ghost use Rattle.wac_parser_resolve.specs.Knowing.{Gets, IsDefinedBy, IsDefinedIn, IsOnlyExport, IsPackage, IsPackageOf, IsTypeOf, SameContents};
+ghost use Rattle.wac_parser_resolve.specs.Knowing.{Gets, IsDefinedIn, IsPackage, IsPackageOf, SameContents};
 ghost use Rattle.wac_types_base.specs.Stated.{stated_world};
 ghost use Rattle.wac_parser_resolve.specs.Knowing.{all_known, handed_under, known_of, lent_content, stated_handed};
 
@@ -24,16 +19,15 @@ use indexmap::IndexMap;
 use semver::Version;
 use std::alloc::{AllocError, Global};
 use wac_graph_core::{CompositionGraph, PackageId, RegisterPackageError};
-use wac_names::{NameKind, component_name};
 use wac_parser_declare::{GrowingTypes, PackagedTypes};
 use wac_parser_lexer::SourceSpan;
 use wac_parser_refusals::{Outcome, Refusal, unknown_package};
 use wac_parser_tree::PackagePath;
 use wac_types_base::{
     DefinedType, DefinedTypeId, FuncType, FuncTypeId, Interface, InterfaceId, ItemKind, NamedMap,
-    Resource, ResourceId, Type, Types, World, WorldId,
+    Resource, ResourceId, Types, World, WorldId,
 };
-use wac_types_names::{BorrowedPackageKey, Package};
+use wac_types_names::{BorrowedPackageKey, Package, definition_of};
 
 /// A package, and the collection in which its world stands.
 #[derive(Clone, Copy)]
@@ -167,79 +161,6 @@ fn see_distinct(map: &NamedMap<ItemKind>)
     ensures { AreDistinct (names_of map.now) }
 {
     let _ = map.len();
-}
-
-/// Whether a name is one of an interface.
-fn is_interface(name: Option<NameKind>) -> bool
-    ensures { Decides result (name ≡ Some kind.Interface) }
-{
-    matches!(name, Some(NameKind::Interface))
-}
-
-/// Whether a text is the name of an interface.
-fn is_interface_name(alloc: Global, text: &str) -> Result<bool, AllocError>
-    ensures { IfOk result (λ b. b ≡ is_interface_name text.now) }
-{
-    Ok(is_interface(component_name(alloc, text)?))
-}
-
-/// The type of an instance or a component.
-fn type_of(item: ItemKind) -> Option<ItemKind>
-    ensures { IsTypeOf item result }
-{
-    match item {
-        ItemKind::Instance(id) => Some(ItemKind::Ty(Type::Interface(id))),
-        ItemKind::Component(id) => Some(ItemKind::Ty(Type::World(id))),
-        _other => None,
-    }
-}
-
-/// The world that an item is the type of.
-fn world_type(item: ItemKind) -> Option<WorldId>
-    ensures some { IfSome result (λ w. item ≡ Item.Ty (TypeKind.World w)) }
-    ensures none { result ≡ None → (w : WorldKey) → item ≡ Item.Ty (TypeKind.World w) → ⊥ }
-{
-    let ItemKind::Ty(ty) = item else {
-        return None;
-    };
-    match ty {
-        Type::World(id) => Some(id),
-        _other => None,
-    }
-}
-
-/// What the one export of a world means, under the name of an interface: the type of an instance or a component.
-fn only_export(alloc: Global, types: &Types, world: WorldId) -> Result<Option<ItemKind>, AllocError>
-    requires { Stands types.now (Item.Component world) }
-    ensures { IfOk result (IsOnlyExport types.now world) }
-{
-    types.see_acyclic();
-    let exports = &types.world(world).exports;
-    if exports.len() != 1 {
-        return Ok(None);
-    }
-    let (name, item) = exports.entry(0);
-    if is_interface_name(alloc, name)? {
-        Ok(type_of(*item))
-    } else {
-        Ok(None)
-    }
-}
-
-/// What an export defines, if it does.
-fn definition_of(
-    alloc: Global,
-    types: &Types,
-    item: ItemKind,
-) -> Result<Option<ItemKind>, AllocError>
-    requires { Stands types.now item }
-    ensures { IfOk result (IsDefinedBy types.now item) }
-{
-    types.see_acyclic();
-    match world_type(item) {
-        Some(id) => only_export(alloc, types, id),
-        None => Ok(None),
-    }
 }
 
 /// What a world defines under a name, if it does.

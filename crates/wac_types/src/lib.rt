@@ -3,10 +3,10 @@
 
 pub use wac_types_base::{
     CoreExtern, CoreFuncType, CoreImports, CoreRefType, CoreType, CycleError, DefinedType,
-    DefinedTypeId, Enum, ExternKind, Flags, FuncKind, FuncType, FuncTypeId, HeapType, Interface,
-    InterfaceId, ItemKind, Items, ModuleType, ModuleTypeId, NamedMap, Names, Places, PrimitiveType,
-    Record, Resource, ResourceAlias, ResourceId, TargetError, Text, Type, Types, TypesMut,
-    UsedType, ValueType, Variant, World, WorldId,
+    DefinedTypeId, EntryIter, Enum, ExternKind, Flags, FuncKind, FuncType, FuncTypeId, HeapType,
+    Interface, InterfaceId, ItemKind, Items, ModuleType, ModuleTypeId, NamedMap, Names, Places,
+    PrimitiveType, Record, Resource, ResourceAlias, ResourceId, TargetError, Text, Type, Types,
+    TypesMut, UsedType, ValueType, Variant, World, WorldId,
 };
 pub use wac_types_fit::{
     Cache, SubtypeCheck, SubtypeChecker, SubtypeError, TargetValidationReport,

@@ -11,7 +11,8 @@ use Rattle.wac_types_base.specs.declared.defined.World.{World}
 use Rattle.wac_types_base.specs.declared.defined.DefinedType.{DefinedType}
 use Rattle.wac_types_base.specs.declared.defined.Resource.{Resource}
 use Rattle.wac_types_base.specs.declared.core_types.ModuleType.{ModuleType}
-use Rattle.wac_types_base.specs.Record.{Collection}
+use Rattle.wac_types_base.specs.Record.{Collection, Kept}
+use Rattle.wac_types_base.specs.Kept.{keeping}
 use Rattle.wac_types_base.specs.Graph.{Among}
 use Rattle.wac_types_base.specs.Collection.{Shape, Entry, Slot, SlotStands, entry_at, labelled, defined_entry, resource_entry, func_entry, interface_entry, world_entry, module_entry, value_node, type_node, item_node, rows, depth, Stands, unfolding_of, IsAcyclic, empty, HasChildren, KeepsTrees, Grows, plus}
 use Rattle.wac_types_base.proofs.GraphLemmas.{row_of, value_of, is_there, whole-extends, node_has}
@@ -286,68 +287,68 @@ Grows-plus c d a h = record {
   acyclic = IsAcyclic-plus c d a h;
 }
 
-plus_defined : (c : Collection) (x : DefinedType) → plus c (record (empty 0) { defined_types = x ∷ [] }) ≡ record c { defined_types = c.defined_types ++ x ∷ [] }
-plus_defined c x = simp append-nil
+plus_defined : (c : Collection) (m : Kept) (x : DefinedType) → plus c (record (empty 0) { defined_types = x ∷ []; kept = m }) ≡ keeping m (record c { defined_types = c.defined_types ++ x ∷ [] })
+plus_defined c m x = simp append-nil
 
-pub Grows-add_defined_type : (c : Collection) (x : DefinedType) → IsAcyclic c → HasChildren c (defined_entry x) → Grows c (record c { defined_types = c.defined_types ++ x ∷ [] })
+pub Grows-add_defined_type : (c : Collection) (m : Kept) (x : DefinedType) → IsAcyclic c → HasChildren c (defined_entry x) → Grows c (keeping m (record c { defined_types = c.defined_types ++ x ∷ [] }))
 unfolding rows
-Grows-add_defined_type c x a has = subst (Grows c) (plus_defined c x) (Grows-plus c (record (empty 0) { defined_types = x ∷ [] }) a
+Grows-add_defined_type c m x a has = subst (Grows c) (plus_defined c m x) (Grows-plus c (record (empty 0) { defined_types = x ∷ []; kept = m }) a
     (λ r m. elim m [ inl is ↦ row_stands c (defined_entry x) has r is | inr none ↦ absurd none ]))
 
-pub IsAcyclic-add_defined_type : (c : Collection) (x : DefinedType) → IsAcyclic c → HasChildren c (defined_entry x) → IsAcyclic (record c { defined_types = c.defined_types ++ x ∷ [] })
-IsAcyclic-add_defined_type c x a has = (Grows-add_defined_type c x a has).acyclic
+pub IsAcyclic-add_defined_type : (c : Collection) (m : Kept) (x : DefinedType) → IsAcyclic c → HasChildren c (defined_entry x) → IsAcyclic (keeping m (record c { defined_types = c.defined_types ++ x ∷ [] }))
+IsAcyclic-add_defined_type c m x a has = (Grows-add_defined_type c m x a has).acyclic
 
-plus_resource : (c : Collection) (x : Resource) → plus c (record (empty 0) { resources = x ∷ [] }) ≡ record c { resources = c.resources ++ x ∷ [] }
-plus_resource c x = simp append-nil
+plus_resource : (c : Collection) (m : Kept) (x : Resource) → plus c (record (empty 0) { resources = x ∷ []; kept = m }) ≡ keeping m (record c { resources = c.resources ++ x ∷ [] })
+plus_resource c m x = simp append-nil
 
-pub Grows-add_resource : (c : Collection) (x : Resource) → IsAcyclic c → HasChildren c (resource_entry x) → Grows c (record c { resources = c.resources ++ x ∷ [] })
+pub Grows-add_resource : (c : Collection) (m : Kept) (x : Resource) → IsAcyclic c → HasChildren c (resource_entry x) → Grows c (keeping m (record c { resources = c.resources ++ x ∷ [] }))
 unfolding rows
-Grows-add_resource c x a has = subst (Grows c) (plus_resource c x) (Grows-plus c (record (empty 0) { resources = x ∷ [] }) a
+Grows-add_resource c m x a has = subst (Grows c) (plus_resource c m x) (Grows-plus c (record (empty 0) { resources = x ∷ []; kept = m }) a
     (λ r m. elim m [ inl is ↦ row_stands c (resource_entry x) has r is | inr none ↦ absurd none ]))
 
-pub IsAcyclic-add_resource : (c : Collection) (x : Resource) → IsAcyclic c → HasChildren c (resource_entry x) → IsAcyclic (record c { resources = c.resources ++ x ∷ [] })
-IsAcyclic-add_resource c x a has = (Grows-add_resource c x a has).acyclic
+pub IsAcyclic-add_resource : (c : Collection) (m : Kept) (x : Resource) → IsAcyclic c → HasChildren c (resource_entry x) → IsAcyclic (keeping m (record c { resources = c.resources ++ x ∷ [] }))
+IsAcyclic-add_resource c m x a has = (Grows-add_resource c m x a has).acyclic
 
-plus_func : (c : Collection) (x : FuncType) → plus c (record (empty 0) { func_types = x ∷ [] }) ≡ record c { func_types = c.func_types ++ x ∷ [] }
-plus_func c x = simp append-nil
+plus_func : (c : Collection) (m : Kept) (x : FuncType) → plus c (record (empty 0) { func_types = x ∷ []; kept = m }) ≡ keeping m (record c { func_types = c.func_types ++ x ∷ [] })
+plus_func c m x = simp append-nil
 
-pub Grows-add_func_type : (c : Collection) (x : FuncType) → IsAcyclic c → HasChildren c (func_entry x) → Grows c (record c { func_types = c.func_types ++ x ∷ [] })
+pub Grows-add_func_type : (c : Collection) (m : Kept) (x : FuncType) → IsAcyclic c → HasChildren c (func_entry x) → Grows c (keeping m (record c { func_types = c.func_types ++ x ∷ [] }))
 unfolding rows
-Grows-add_func_type c x a has = subst (Grows c) (plus_func c x) (Grows-plus c (record (empty 0) { func_types = x ∷ [] }) a
+Grows-add_func_type c m x a has = subst (Grows c) (plus_func c m x) (Grows-plus c (record (empty 0) { func_types = x ∷ []; kept = m }) a
     (λ r m. elim m [ inl is ↦ row_stands c (func_entry x) has r is | inr none ↦ absurd none ]))
 
-pub IsAcyclic-add_func_type : (c : Collection) (x : FuncType) → IsAcyclic c → HasChildren c (func_entry x) → IsAcyclic (record c { func_types = c.func_types ++ x ∷ [] })
-IsAcyclic-add_func_type c x a has = (Grows-add_func_type c x a has).acyclic
+pub IsAcyclic-add_func_type : (c : Collection) (m : Kept) (x : FuncType) → IsAcyclic c → HasChildren c (func_entry x) → IsAcyclic (keeping m (record c { func_types = c.func_types ++ x ∷ [] }))
+IsAcyclic-add_func_type c m x a has = (Grows-add_func_type c m x a has).acyclic
 
-plus_interface : (c : Collection) (x : Interface) → plus c (record (empty 0) { interfaces = x ∷ [] }) ≡ record c { interfaces = c.interfaces ++ x ∷ [] }
-plus_interface c x = simp append-nil
+plus_interface : (c : Collection) (m : Kept) (x : Interface) → plus c (record (empty 0) { interfaces = x ∷ []; kept = m }) ≡ keeping m (record c { interfaces = c.interfaces ++ x ∷ [] })
+plus_interface c m x = simp append-nil
 
-pub Grows-add_interface : (c : Collection) (x : Interface) → IsAcyclic c → HasChildren c (interface_entry x) → Grows c (record c { interfaces = c.interfaces ++ x ∷ [] })
+pub Grows-add_interface : (c : Collection) (m : Kept) (x : Interface) → IsAcyclic c → HasChildren c (interface_entry x) → Grows c (keeping m (record c { interfaces = c.interfaces ++ x ∷ [] }))
 unfolding rows
-Grows-add_interface c x a has = subst (Grows c) (plus_interface c x) (Grows-plus c (record (empty 0) { interfaces = x ∷ [] }) a
+Grows-add_interface c m x a has = subst (Grows c) (plus_interface c m x) (Grows-plus c (record (empty 0) { interfaces = x ∷ []; kept = m }) a
     (λ r m. elim m [ inl is ↦ row_stands c (interface_entry x) has r is | inr none ↦ absurd none ]))
 
-pub IsAcyclic-add_interface : (c : Collection) (x : Interface) → IsAcyclic c → HasChildren c (interface_entry x) → IsAcyclic (record c { interfaces = c.interfaces ++ x ∷ [] })
-IsAcyclic-add_interface c x a has = (Grows-add_interface c x a has).acyclic
+pub IsAcyclic-add_interface : (c : Collection) (m : Kept) (x : Interface) → IsAcyclic c → HasChildren c (interface_entry x) → IsAcyclic (keeping m (record c { interfaces = c.interfaces ++ x ∷ [] }))
+IsAcyclic-add_interface c m x a has = (Grows-add_interface c m x a has).acyclic
 
-plus_world : (c : Collection) (x : World) → plus c (record (empty 0) { worlds = x ∷ [] }) ≡ record c { worlds = c.worlds ++ x ∷ [] }
-plus_world c x = simp append-nil
+plus_world : (c : Collection) (m : Kept) (x : World) → plus c (record (empty 0) { worlds = x ∷ []; kept = m }) ≡ keeping m (record c { worlds = c.worlds ++ x ∷ [] })
+plus_world c m x = simp append-nil
 
-pub Grows-add_world : (c : Collection) (x : World) → IsAcyclic c → HasChildren c (world_entry x) → Grows c (record c { worlds = c.worlds ++ x ∷ [] })
+pub Grows-add_world : (c : Collection) (m : Kept) (x : World) → IsAcyclic c → HasChildren c (world_entry x) → Grows c (keeping m (record c { worlds = c.worlds ++ x ∷ [] }))
 unfolding rows
-Grows-add_world c x a has = subst (Grows c) (plus_world c x) (Grows-plus c (record (empty 0) { worlds = x ∷ [] }) a
+Grows-add_world c m x a has = subst (Grows c) (plus_world c m x) (Grows-plus c (record (empty 0) { worlds = x ∷ []; kept = m }) a
     (λ r m. elim m [ inl is ↦ row_stands c (world_entry x) has r is | inr none ↦ absurd none ]))
 
-pub IsAcyclic-add_world : (c : Collection) (x : World) → IsAcyclic c → HasChildren c (world_entry x) → IsAcyclic (record c { worlds = c.worlds ++ x ∷ [] })
-IsAcyclic-add_world c x a has = (Grows-add_world c x a has).acyclic
+pub IsAcyclic-add_world : (c : Collection) (m : Kept) (x : World) → IsAcyclic c → HasChildren c (world_entry x) → IsAcyclic (keeping m (record c { worlds = c.worlds ++ x ∷ [] }))
+IsAcyclic-add_world c m x a has = (Grows-add_world c m x a has).acyclic
 
-plus_module : (c : Collection) (x : ModuleType) → plus c (record (empty 0) { modules = x ∷ [] }) ≡ record c { modules = c.modules ++ x ∷ [] }
-plus_module c x = simp append-nil
+plus_module : (c : Collection) (m : Kept) (x : ModuleType) → plus c (record (empty 0) { modules = x ∷ []; kept = m }) ≡ keeping m (record c { modules = c.modules ++ x ∷ [] })
+plus_module c m x = simp append-nil
 
-pub Grows-add_module_type : (c : Collection) (x : ModuleType) → IsAcyclic c → Grows c (record c { modules = c.modules ++ x ∷ [] })
+pub Grows-add_module_type : (c : Collection) (m : Kept) (x : ModuleType) → IsAcyclic c → Grows c (keeping m (record c { modules = c.modules ++ x ∷ [] }))
 unfolding rows
-Grows-add_module_type c x a = subst (Grows c) (plus_module c x) (Grows-plus c (record (empty 0) { modules = x ∷ [] }) a
+Grows-add_module_type c m x a = subst (Grows c) (plus_module c m x) (Grows-plus c (record (empty 0) { modules = x ∷ []; kept = m }) a
     (λ r m. elim m [ inl is ↦ λ k n. absurd (subst (λ l. Among (Some k) l) is n) | inr none ↦ absurd none ]))
 
-pub IsAcyclic-add_module_type : (c : Collection) (x : ModuleType) → IsAcyclic c → IsAcyclic (record c { modules = c.modules ++ x ∷ [] })
-IsAcyclic-add_module_type c x a = (Grows-add_module_type c x a).acyclic
+pub IsAcyclic-add_module_type : (c : Collection) (m : Kept) (x : ModuleType) → IsAcyclic c → IsAcyclic (keeping m (record c { modules = c.modules ++ x ∷ [] }))
+IsAcyclic-add_module_type c m x a = (Grows-add_module_type c m x a).acyclic

@@ -23,6 +23,7 @@ use Rattle.wac_types_base.specs.declared.ids.InterfaceId.{InterfaceId}
 use Rattle.wac_types_base.specs.declared.ids.WorldId.{WorldId}
 use Rattle.wac_types_base.specs.declared.ids.ModuleTypeId.{ModuleTypeId}
 use Rattle.wac_types_base.specs.Record.{Collection}
+use Rattle.wac_types_base.specs.Kept.{keeping}
 use Rattle.wac_types_base.specs.Graph.{Whole, Wholes, node, skip, wholes_by, close, grow, whole, Among}
 use Rattle.wac_types_base.specs.Collection.{Shape, Entry, Slot, SlotStands, HasChildren, item_node, labelled, Stands, depth, IsAcyclic, unfolding_of, Grows, defined_entry, resource_entry, func_entry, interface_entry, world_entry, module_entry, slots_in, slots_of, primitive, type_of, own_of, borrow_of}
 use Rattle.wac_types_base.specs.Copying.{IsCopy, SlotsCopied, none_copied, hole_copied, place_copied}
@@ -262,7 +263,7 @@ module _ (c d e : Collection) (m : Copies) (ha : IsAcyclic c) (hb : IsAcyclic d)
   pub defined_children : HasChildren d (defined_entry y)
   defined_children = children_stand c d m ha hb a (ItemKind.Value (ValueType.Defined i)) (defined_entry x) (defined_entry y) defined_node places defined_mapped
 
-  module _ (j : DefinedTypeId) (grows : Grows d e) (added : e ≡ record d { defined_types = d.defined_types ++ y ∷ [] }) (id : j ≡ record { collection = d.number; index = length d.defined_types }) where
+  module _ (j : DefinedTypeId) (grows : Grows d e) (added : e ≡ keeping e.kept (record d { defined_types = d.defined_types ++ y ∷ [] })) (id : j ≡ record { collection = d.number; index = length d.defined_types }) where
     defined_there : item_node e (ItemKind.Value (ValueType.Defined j)) ≡ Some (defined_entry y)
     unfolding item_node
     defined_there = entry_at-is defined_entry e.number e.defined_types j.collection j.index y
@@ -313,7 +314,7 @@ module _ (c d e : Collection) (m : Copies) (ha : IsAcyclic c) (hb : IsAcyclic d)
   pub resource_children : HasChildren d (resource_entry y)
   resource_children = children_stand c d m ha hb a (ItemKind.Ty (TypeKind.Resource i)) (resource_entry x) (resource_entry y) resource_node places resource_mapped
 
-  module _ (j : ResourceId) (grows : Grows d e) (added : e ≡ record d { resources = d.resources ++ y ∷ [] }) (id : j ≡ record { collection = d.number; index = length d.resources }) where
+  module _ (j : ResourceId) (grows : Grows d e) (added : e ≡ keeping e.kept (record d { resources = d.resources ++ y ∷ [] })) (id : j ≡ record { collection = d.number; index = length d.resources }) where
     resource_there : item_node e (ItemKind.Ty (TypeKind.Resource j)) ≡ Some (resource_entry y)
     unfolding item_node
     resource_there = entry_at-is resource_entry e.number e.resources j.collection j.index y
@@ -364,7 +365,7 @@ module _ (c d e : Collection) (m : Copies) (ha : IsAcyclic c) (hb : IsAcyclic d)
   pub func_children : HasChildren d (func_entry y)
   func_children = children_stand c d m ha hb a (ItemKind.Func i) (func_entry x) (func_entry y) func_node places func_mapped
 
-  module _ (j : FuncTypeId) (grows : Grows d e) (added : e ≡ record d { func_types = d.func_types ++ y ∷ [] }) (id : j ≡ record { collection = d.number; index = length d.func_types }) where
+  module _ (j : FuncTypeId) (grows : Grows d e) (added : e ≡ keeping e.kept (record d { func_types = d.func_types ++ y ∷ [] })) (id : j ≡ record { collection = d.number; index = length d.func_types }) where
     func_there : item_node e (ItemKind.Func j) ≡ Some (func_entry y)
     unfolding item_node
     func_there = entry_at-is func_entry e.number e.func_types j.collection j.index y
@@ -415,7 +416,7 @@ module _ (c d e : Collection) (m : Copies) (ha : IsAcyclic c) (hb : IsAcyclic d)
   pub interface_children : HasChildren d (interface_entry y)
   interface_children = children_stand c d m ha hb a (ItemKind.Instance i) (interface_entry x) (interface_entry y) interface_node places interface_mapped
 
-  module _ (j : InterfaceId) (grows : Grows d e) (added : e ≡ record d { interfaces = d.interfaces ++ y ∷ [] }) (id : j ≡ record { collection = d.number; index = length d.interfaces }) where
+  module _ (j : InterfaceId) (grows : Grows d e) (added : e ≡ keeping e.kept (record d { interfaces = d.interfaces ++ y ∷ [] })) (id : j ≡ record { collection = d.number; index = length d.interfaces }) where
     interface_there : item_node e (ItemKind.Instance j) ≡ Some (interface_entry y)
     unfolding item_node
     interface_there = entry_at-is interface_entry e.number e.interfaces j.collection j.index y
@@ -466,7 +467,7 @@ module _ (c d e : Collection) (m : Copies) (ha : IsAcyclic c) (hb : IsAcyclic d)
   pub world_children : HasChildren d (world_entry y)
   world_children = children_stand c d m ha hb a (ItemKind.Component i) (world_entry x) (world_entry y) world_node places world_mapped
 
-  module _ (j : WorldId) (grows : Grows d e) (added : e ≡ record d { worlds = d.worlds ++ y ∷ [] }) (id : j ≡ record { collection = d.number; index = length d.worlds }) where
+  module _ (j : WorldId) (grows : Grows d e) (added : e ≡ keeping e.kept (record d { worlds = d.worlds ++ y ∷ [] })) (id : j ≡ record { collection = d.number; index = length d.worlds }) where
     world_there : item_node e (ItemKind.Component j) ≡ Some (world_entry y)
     unfolding item_node
     world_there = entry_at-is world_entry e.number e.worlds j.collection j.index y
@@ -517,7 +518,7 @@ module _ (c d e : Collection) (m : Copies) (ha : IsAcyclic c) (hb : IsAcyclic d)
   pub module_children : HasChildren d (module_entry y)
   module_children = children_stand c d m ha hb a (ItemKind.Module i) (module_entry x) (module_entry y) module_node places module_mapped
 
-  module _ (j : ModuleTypeId) (grows : Grows d e) (added : e ≡ record d { modules = d.modules ++ y ∷ [] }) (id : j ≡ record { collection = d.number; index = length d.modules }) where
+  module _ (j : ModuleTypeId) (grows : Grows d e) (added : e ≡ keeping e.kept (record d { modules = d.modules ++ y ∷ [] })) (id : j ≡ record { collection = d.number; index = length d.modules }) where
     module_there : item_node e (ItemKind.Module j) ≡ Some (module_entry y)
     unfolding item_node
     module_there = entry_at-is module_entry e.number e.modules j.collection j.index y

@@ -1,5 +1,7 @@
 pub mod GraphLemmas
 pub mod Relation
+pub mod Sameness
+pub mod Keeping
 pub mod Looked
 pub mod Loops
 pub mod Lists
@@ -19,3 +21,4 @@ pub mod Visited
 pub mod Made
 pub mod Stating
 pub mod Again
+pub mod Shared

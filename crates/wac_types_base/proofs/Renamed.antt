@@ -24,7 +24,8 @@ use Rattle.wac_types_base.specs.declared.ids.InterfaceId.{InterfaceId}
 use Rattle.wac_types_base.specs.declared.ids.WorldId.{WorldId}
 use Rattle.wac_types_base.specs.declared.ids.ModuleTypeId.{ModuleTypeId}
 use Rattle.wac_types_base.specs.Entries.{Name, values_of, with_values}
-use Rattle.wac_types_base.specs.Record.{Collection}
+use Rattle.wac_types_base.specs.Record.{Collection, Kept}
+use Rattle.wac_types_base.specs.Kept.{keeping}
 use Rattle.wac_types_base.specs.Graph.{Whole, Wholes, wholes_by, whole}
 use Rattle.wac_types_base.specs.Collection.{Shape, Entry, Slot, item_node, entry_at, labelled, Stands, rows, depth, IsAcyclic, unfolding_of, defined_entry, resource_entry, func_entry, interface_entry, world_entry, module_entry, value_node, type_node, value_slot, option_slot, type_of, own_of, borrow_of, use_names, used, items}
 use Rattle.wac_types_base.specs.Copying.{IsCopy}
@@ -154,32 +155,32 @@ module _ (n : ℕ) where
       let y = labelled-some l o e is in
       rw (h y.0 y.1) (ap (λ e. Some (entry_under n e)) (sym y.2))
 
-module _ (n : ℕ) (c : Collection) where
-  defined_under : (i : DefinedTypeId) (e : Entry) → entry_at defined_entry c.number c.defined_types i.collection i.index ≡ Some e → entry_at defined_entry n (renumbered n c).defined_types n i.index ≡ Some (entry_under n e)
+module _ (n : ℕ) (c : Collection) (q : Kept) where
+  defined_under : (i : DefinedTypeId) (e : Entry) → entry_at defined_entry c.number c.defined_types i.collection i.index ≡ Some e → entry_at defined_entry n (keeping q (renumbered n c)).defined_types n i.index ≡ Some (entry_under n e)
   defined_under i e = entry_at-under n defined_entry (defined_renamed (under n)) (defined_entry_renamed (under n)) c.number c.defined_types i.collection i.index e
 
-  resource_under : (i : ResourceId) (e : Entry) → entry_at resource_entry c.number c.resources i.collection i.index ≡ Some e → entry_at resource_entry n (renumbered n c).resources n i.index ≡ Some (entry_under n e)
+  resource_under : (i : ResourceId) (e : Entry) → entry_at resource_entry c.number c.resources i.collection i.index ≡ Some e → entry_at resource_entry n (keeping q (renumbered n c)).resources n i.index ≡ Some (entry_under n e)
   resource_under i e = entry_at-under n resource_entry (resource_renamed (under n)) (resource_entry_renamed (under n)) c.number c.resources i.collection i.index e
 
-  func_under : (i : FuncTypeId) (e : Entry) → entry_at func_entry c.number c.func_types i.collection i.index ≡ Some e → entry_at func_entry n (renumbered n c).func_types n i.index ≡ Some (entry_under n e)
+  func_under : (i : FuncTypeId) (e : Entry) → entry_at func_entry c.number c.func_types i.collection i.index ≡ Some e → entry_at func_entry n (keeping q (renumbered n c)).func_types n i.index ≡ Some (entry_under n e)
   func_under i e = entry_at-under n func_entry (func_renamed (under n)) (func_entry_renamed (under n)) c.number c.func_types i.collection i.index e
 
-  interface_under : (i : InterfaceId) (e : Entry) → entry_at interface_entry c.number c.interfaces i.collection i.index ≡ Some e → entry_at interface_entry n (renumbered n c).interfaces n i.index ≡ Some (entry_under n e)
+  interface_under : (i : InterfaceId) (e : Entry) → entry_at interface_entry c.number c.interfaces i.collection i.index ≡ Some e → entry_at interface_entry n (keeping q (renumbered n c)).interfaces n i.index ≡ Some (entry_under n e)
   interface_under i e = entry_at-under n interface_entry (interface_renamed (under n)) (interface_entry_renamed (under n)) c.number c.interfaces i.collection i.index e
 
-  world_under : (i : WorldId) (e : Entry) → entry_at world_entry c.number c.worlds i.collection i.index ≡ Some e → entry_at world_entry n (renumbered n c).worlds n i.index ≡ Some (entry_under n e)
+  world_under : (i : WorldId) (e : Entry) → entry_at world_entry c.number c.worlds i.collection i.index ≡ Some e → entry_at world_entry n (keeping q (renumbered n c)).worlds n i.index ≡ Some (entry_under n e)
   world_under i e = entry_at-under n world_entry (world_renamed (under n)) (world_entry_renamed (under n)) c.number c.worlds i.collection i.index e
 
   module_under : (i : ModuleTypeId) (e : Entry) → entry_at module_entry c.number c.modules i.collection i.index ≡ Some e → entry_at module_entry n c.modules n i.index ≡ Some (entry_under n e)
   module_under i e is = subst (λ l. entry_at module_entry n l n i.index ≡ Some (entry_under n e)) (map_same c.modules) (entry_at-under n module_entry (λ m. m) (module_entry_renamed (under n)) c.number c.modules i.collection i.index e is)
 
-  value_under : (v : ValueType) (e : Entry) → value_node c v ≡ Some e → value_node (renumbered n c) (value_renamed (under n) v) ≡ Some (entry_under n e)
+  value_under : (v : ValueType) (e : Entry) → value_node c v ≡ Some e → value_node (keeping q (renumbered n c)) (value_renamed (under n) v) ≡ Some (entry_under n e)
   value_under (ValueType.Primitive p) e is = ap (λ o. option_map (entry_under n) o) is
   value_under (ValueType.Borrow r) e is = labelled-under n borrow_of _ _ (resource_under r) e is
   value_under (ValueType.Own r) e is = labelled-under n own_of _ _ (resource_under r) e is
   value_under (ValueType.Defined d) e is = defined_under d e is
 
-  type_under : (t : TypeKind) (e : Entry) → type_node c t ≡ Some e → type_node (renumbered n c) (type_renamed (under n) t) ≡ Some (entry_under n e)
+  type_under : (t : TypeKind) (e : Entry) → type_node c t ≡ Some e → type_node (keeping q (renumbered n c)) (type_renamed (under n) t) ≡ Some (entry_under n e)
   type_under (TypeKind.Resource r) e = resource_under r e
   type_under (TypeKind.Func i) e = labelled-under n type_of _ _ (func_under i) e
   type_under (TypeKind.Value v) e = labelled-under n type_of _ _ (value_under v) e
@@ -187,7 +188,7 @@ module _ (n : ℕ) (c : Collection) where
   type_under (TypeKind.World i) e = labelled-under n type_of _ _ (world_under i) e
   type_under (TypeKind.Module i) e = labelled-under n type_of _ _ (module_under i) e
 
-  node_under : (k : ItemKind) (e : Entry) → item_node c k ≡ Some e → item_node (renumbered n c) (kind_under n k) ≡ Some (entry_under n e)
+  node_under : (k : ItemKind) (e : Entry) → item_node c k ≡ Some e → item_node (keeping q (renumbered n c)) (kind_under n k) ≡ Some (entry_under n e)
   unfolding item_node
   node_under (ItemKind.Ty t) e = type_under t e
   node_under (ItemKind.Func i) e = func_under i e
@@ -202,59 +203,59 @@ module _ (n : ℕ) (c : Collection) where
   abbrev IsFrom : ItemKind → Type 0
   IsFrom k = Stands c (kind_under c.number k) × (kind_under n (kind_under c.number k) ≡ k)
 
-  defined_from : (i : DefinedTypeId) → Stands (renumbered n c) (ItemKind.Value (ValueType.Defined i)) → IsFrom (ItemKind.Value (ValueType.Defined i))
+  defined_from : (i : DefinedTypeId) → Stands (keeping q (renumbered n c)) (ItemKind.Value (ValueType.Defined i)) → IsFrom (ItemKind.Value (ValueType.Defined i))
   unfolding item_node
   defined_from i stands =
-      let f = defined_found (renumbered n c) i stands in
+      let f = defined_found (keeping q (renumbered n c)) i stands in
       let x = map-got (defined_renamed (under n)) c.defined_types i.index f.value f.at in
       (is_there _ _ (entry_at-is defined_entry c.number c.defined_types c.number i.index x.0 x.1 refl), ap (λ a. ItemKind.Value (ValueType.Defined (record { collection = a; index = i.index }))) (sym f.own))
 
-  resource_from : (i : ResourceId) → Stands (renumbered n c) (ItemKind.Ty (TypeKind.Resource i)) → IsFrom (ItemKind.Ty (TypeKind.Resource i))
+  resource_from : (i : ResourceId) → Stands (keeping q (renumbered n c)) (ItemKind.Ty (TypeKind.Resource i)) → IsFrom (ItemKind.Ty (TypeKind.Resource i))
   unfolding item_node
   resource_from i stands =
-      let f = resource_found (renumbered n c) i stands in
+      let f = resource_found (keeping q (renumbered n c)) i stands in
       let x = map-got (resource_renamed (under n)) c.resources i.index f.value f.at in
       (is_there _ _ (entry_at-is resource_entry c.number c.resources c.number i.index x.0 x.1 refl), ap (λ a. ItemKind.Ty (TypeKind.Resource (record { collection = a; index = i.index }))) (sym f.own))
 
-  func_from : (i : FuncTypeId) → Stands (renumbered n c) (ItemKind.Func i) → IsFrom (ItemKind.Func i)
+  func_from : (i : FuncTypeId) → Stands (keeping q (renumbered n c)) (ItemKind.Func i) → IsFrom (ItemKind.Func i)
   unfolding item_node
   func_from i stands =
-      let f = func_found (renumbered n c) i stands in
+      let f = func_found (keeping q (renumbered n c)) i stands in
       let x = map-got (func_renamed (under n)) c.func_types i.index f.value f.at in
       (is_there _ _ (entry_at-is func_entry c.number c.func_types c.number i.index x.0 x.1 refl), ap (λ a. ItemKind.Func (record { collection = a; index = i.index })) (sym f.own))
 
-  interface_from : (i : InterfaceId) → Stands (renumbered n c) (ItemKind.Instance i) → IsFrom (ItemKind.Instance i)
+  interface_from : (i : InterfaceId) → Stands (keeping q (renumbered n c)) (ItemKind.Instance i) → IsFrom (ItemKind.Instance i)
   unfolding item_node
   interface_from i stands =
-      let f = interface_found (renumbered n c) i stands in
+      let f = interface_found (keeping q (renumbered n c)) i stands in
       let x = map-got (interface_renamed (under n)) c.interfaces i.index f.value f.at in
       (is_there _ _ (entry_at-is interface_entry c.number c.interfaces c.number i.index x.0 x.1 refl), ap (λ a. ItemKind.Instance (record { collection = a; index = i.index })) (sym f.own))
 
-  world_from : (i : WorldId) → Stands (renumbered n c) (ItemKind.Component i) → IsFrom (ItemKind.Component i)
+  world_from : (i : WorldId) → Stands (keeping q (renumbered n c)) (ItemKind.Component i) → IsFrom (ItemKind.Component i)
   unfolding item_node
   world_from i stands =
-      let f = world_found (renumbered n c) i stands in
+      let f = world_found (keeping q (renumbered n c)) i stands in
       let x = map-got (world_renamed (under n)) c.worlds i.index f.value f.at in
       (is_there _ _ (entry_at-is world_entry c.number c.worlds c.number i.index x.0 x.1 refl), ap (λ a. ItemKind.Component (record { collection = a; index = i.index })) (sym f.own))
 
-  module_from : (i : ModuleTypeId) → Stands (renumbered n c) (ItemKind.Module i) → IsFrom (ItemKind.Module i)
+  module_from : (i : ModuleTypeId) → Stands (keeping q (renumbered n c)) (ItemKind.Module i) → IsFrom (ItemKind.Module i)
   unfolding item_node
   module_from i stands =
-      let f = module_found (renumbered n c) i stands in
+      let f = module_found (keeping q (renumbered n c)) i stands in
       (is_there _ _ (entry_at-is module_entry c.number c.modules c.number i.index f.value f.at refl), ap (λ a. ItemKind.Module (record { collection = a; index = i.index })) (sym f.own))
 
-  value_from : (v : ValueType) → Stands (renumbered n c) (ItemKind.Value v) → IsFrom (ItemKind.Value v)
+  value_from : (v : ValueType) → Stands (keeping q (renumbered n c)) (ItemKind.Value v) → IsFrom (ItemKind.Value v)
   unfolding item_node
   value_from (ValueType.Primitive p) stands = (refl, refl)
   value_from (ValueType.Borrow r) stands =
-      let b = resource_from r (stands_borrow (renumbered n c) r stands) in
+      let b = resource_from r (stands_borrow (keeping q (renumbered n c)) r stands) in
       (labelled_there borrow_of (item_node c (kind_under c.number (ItemKind.Ty (TypeKind.Resource r)))) b.0, ap handle_of b.1)
     where
       handle_of : ItemKind → ItemKind
       handle_of (ItemKind.Ty (TypeKind.Resource r)) = ItemKind.Value (ValueType.Borrow r)
       handle_of k = k
   value_from (ValueType.Own r) stands =
-      let b = resource_from r (stands_own (renumbered n c) r stands) in
+      let b = resource_from r (stands_own (keeping q (renumbered n c)) r stands) in
       (labelled_there own_of (item_node c (kind_under c.number (ItemKind.Ty (TypeKind.Resource r)))) b.0, ap handle_of b.1)
     where
       handle_of : ItemKind → ItemKind
@@ -271,16 +272,16 @@ module _ (n : ℕ) (c : Collection) where
   typed (ItemKind.Value v) = ItemKind.Ty (TypeKind.Value v)
   typed k = k
 
-  type_from : (t : TypeKind) → Stands (renumbered n c) (ItemKind.Ty t) → IsFrom (ItemKind.Ty t)
+  type_from : (t : TypeKind) → Stands (keeping q (renumbered n c)) (ItemKind.Ty t) → IsFrom (ItemKind.Ty t)
   unfolding item_node
   type_from (TypeKind.Resource r) stands = resource_from r stands
-  type_from (TypeKind.Func i) stands = let b = func_from i (stands_typed_func (renumbered n c) i stands) in (labelled_there type_of _ b.0, ap typed b.1)
-  type_from (TypeKind.Value v) stands = let b = value_from v (stands_typed_value (renumbered n c) v stands) in (labelled_there type_of _ b.0, ap typed b.1)
-  type_from (TypeKind.Interface i) stands = let b = interface_from i (stands_typed_interface (renumbered n c) i stands) in (labelled_there type_of _ b.0, ap typed b.1)
-  type_from (TypeKind.World i) stands = let b = world_from i (stands_typed_world (renumbered n c) i stands) in (labelled_there type_of _ b.0, ap typed b.1)
-  type_from (TypeKind.Module i) stands = let b = module_from i (stands_typed_module (renumbered n c) i stands) in (labelled_there type_of _ b.0, ap typed b.1)
+  type_from (TypeKind.Func i) stands = let b = func_from i (stands_typed_func (keeping q (renumbered n c)) i stands) in (labelled_there type_of _ b.0, ap typed b.1)
+  type_from (TypeKind.Value v) stands = let b = value_from v (stands_typed_value (keeping q (renumbered n c)) v stands) in (labelled_there type_of _ b.0, ap typed b.1)
+  type_from (TypeKind.Interface i) stands = let b = interface_from i (stands_typed_interface (keeping q (renumbered n c)) i stands) in (labelled_there type_of _ b.0, ap typed b.1)
+  type_from (TypeKind.World i) stands = let b = world_from i (stands_typed_world (keeping q (renumbered n c)) i stands) in (labelled_there type_of _ b.0, ap typed b.1)
+  type_from (TypeKind.Module i) stands = let b = module_from i (stands_typed_module (keeping q (renumbered n c)) i stands) in (labelled_there type_of _ b.0, ap typed b.1)
 
-  kind_from : (k : ItemKind) → Stands (renumbered n c) k → IsFrom k
+  kind_from : (k : ItemKind) → Stands (keeping q (renumbered n c)) k → IsFrom k
   kind_from (ItemKind.Ty t) stands = type_from t stands
   kind_from (ItemKind.Func i) stands = func_from i stands
   kind_from (ItemKind.Instance i) stands = interface_from i stands
@@ -290,24 +291,24 @@ module _ (n : ℕ) (c : Collection) where
 
   -- ---- the unfoldings
 
-  depth_under : depth (renumbered n c) ≡ depth c
+  depth_under : depth (keeping q (renumbered n c)) ≡ depth c
   unfolding rows
   depth_under = ap (λ l. l + 2) (simp (length-append, length-map) refl)
 
-  unfolding_under : (k : ItemKind) (t : Whole Shape) → whole (item_node c) (depth c) k ≡ Some t → whole (item_node (renumbered n c)) (depth (renumbered n c)) (kind_under n k) ≡ Some t
+  unfolding_under : (k : ItemKind) (t : Whole Shape) → whole (item_node c) (depth c) k ≡ Some t → whole (item_node (keeping q (renumbered n c))) (depth (keeping q (renumbered n c))) (kind_under n k) ≡ Some t
   unfolding_under k t e =
-      subst (λ m. whole (item_node (renumbered n c)) m (kind_under n k) ≡ Some t) (sym depth_under)
-      (whole-mapped (item_node c) (item_node (renumbered n c)) (kind_under n) node_under (depth c) k t e)
+      subst (λ m. whole (item_node (keeping q (renumbered n c))) m (kind_under n k) ≡ Some t) (sym depth_under)
+      (whole-mapped (item_node c) (item_node (keeping q (renumbered n c))) (kind_under n) node_under (depth c) k t e)
 
-  pub IsAcyclic-renumbered : IsAcyclic c → IsAcyclic (renumbered n c)
+  pub IsAcyclic-renumbered : IsAcyclic c → IsAcyclic (keeping q (renumbered n c))
   unfolding IsAcyclic
   IsAcyclic-renumbered h k stands =
       let b = kind_from k stands in
       let t = value_of _ (h (kind_under c.number k) b.0) in
-      subst (λ j. IsSome (whole (item_node (renumbered n c)) (depth (renumbered n c)) j)) b.1 (is_there _ t.0 (unfolding_under (kind_under c.number k) t.0 t.1))
+      subst (λ j. IsSome (whole (item_node (keeping q (renumbered n c))) (depth (keeping q (renumbered n c))) j)) b.1 (is_there _ t.0 (unfolding_under (kind_under c.number k) t.0 t.1))
 
   -- each id that stands is there under the number, with the same unfolding
-  pub IsCopy-renumbered : IsAcyclic c → (k : ItemKind) → Stands c k → IsCopy c (renumbered n c) k (kind_under n k)
+  pub IsCopy-renumbered : IsAcyclic c → (k : ItemKind) → Stands c k → IsCopy c (keeping q (renumbered n c)) k (kind_under n k)
   unfolding IsAcyclic unfolding_of
   IsCopy-renumbered h k stands =
       let e = value_of _ stands in
@@ -335,9 +336,9 @@ no_copies m n is h =
     ∙ ap (λ f. record (under n) { module_type = f }) (fun_ext (λ i. by_parts (λ a b. record { collection = a; index = b }) m.number n (get nat_eq m.modules i.index) i.index is (not_there m.modules h.5 i.index)))
 
 -- what is written again with ids that become those under the number
-pub renumbered_by : (n : ℕ) (c : Collection) (m : Renaming) → m ≡ under n → (ds : List DefinedType) (rs : List Resource) (fs : List FuncType) (is : List Interface) (ws : List World) (ms : List ModuleType)
+pub renumbered_by : (n : ℕ) (c : Collection) (q : Kept) (m : Renaming) → m ≡ under n → (ds : List DefinedType) (rs : List Resource) (fs : List FuncType) (is : List Interface) (ws : List World) (ms : List ModuleType)
     → ds ≡ map (defined_renamed m) c.defined_types → rs ≡ map (resource_renamed m) c.resources → fs ≡ map (func_renamed m) c.func_types
     → is ≡ map (interface_renamed m) c.interfaces → ws ≡ map (world_renamed m) c.worlds → ms ≡ map (λ x. x) c.modules
-    → record { number = n; defined_types = ds; resources = rs; func_types = fs; interfaces = is; worlds = ws; modules = ms } ≡ renumbered n c
-renumbered_by n c m e ds rs fs is ws ms a b f g h k =
-    rw (a, b, f, g, h, k, map_same c.modules) (ap (λ r. record { number = n; defined_types = map (defined_renamed r) c.defined_types; resources = map (resource_renamed r) c.resources; func_types = map (func_renamed r) c.func_types; interfaces = map (interface_renamed r) c.interfaces; worlds = map (world_renamed r) c.worlds; modules = c.modules }) e)
+    → record { number = n; defined_types = ds; resources = rs; func_types = fs; interfaces = is; worlds = ws; modules = ms; kept = q } ≡ keeping q (renumbered n c)
+renumbered_by n c q m e ds rs fs is ws ms a b f g h k =
+    rw (a, b, f, g, h, k, map_same c.modules) (ap (λ r. record { number = n; defined_types = map (defined_renamed r) c.defined_types; resources = map (resource_renamed r) c.resources; func_types = map (func_renamed r) c.func_types; interfaces = map (interface_renamed r) c.interfaces; worlds = map (world_renamed r) c.worlds; modules = c.modules; kept = q }) e)

@@ -18,7 +18,8 @@ use Rattle.wac_types_base.specs.declared.defined.World.{World}
 use Rattle.wac_types_base.specs.declared.ids.WorldId.{WorldId}
 use Rattle.wac_types_base.specs.declared.core_types.ModuleType.{ModuleType}
 use Rattle.wac_types_base.specs.declared.ids.ModuleTypeId.{ModuleTypeId}
-use Rattle.wac_types_base.specs.Record.{Collection}
+use Rattle.wac_types_base.specs.Record.{Collection, Kept}
+use Rattle.wac_types_base.specs.Kept.{keeping}
 use Rattle.wac_types_base.specs.Collection.{Shape, Entry, SlotStands, HasChildren, entry_at, labelled, type_of, borrow_of, own_of, defined_entry, resource_entry, func_entry, interface_entry, world_entry, module_entry, value_node, type_node, item_node, Stands, rows, depth, IsAcyclic, unfolding_of}
 use Rattle.wac_types_base.specs.Graph.{Whole, Wholes, wholes_by, whole, UnfoldsWithin, Among}
 use Rattle.wac_types_base.specs.Reaching.{Reaches, here, below, value_entry_kind, entry_kind, NamesEntry, LeadsBack, KeepsOthers, KeepsStanding, with_defined_type, with_resource, with_func_type, with_interface, with_world, with_module_type}
@@ -182,14 +183,14 @@ defined_same i j p q =
     let second : ℕ → ItemKind = λ b. ItemKind.Value (ValueType.Defined (record { collection = i.collection; index = b })) in
     ap first p ∙ ap second q
 
-module _ (c : Collection) (id : DefinedTypeId) (own : id.collection ≡ c.number) (within : id.index < length c.defined_types) (x : DefinedType) where
-  defined_value_unchanged : (v : ValueType) → (NamesEntry (ItemKind.Value (ValueType.Defined id)) (ItemKind.Value v) → ⊥) → value_node (with_defined_type c id.index x) v ≡ value_node c v
+module _ (c : Collection) (m : Kept) (id : DefinedTypeId) (own : id.collection ≡ c.number) (within : id.index < length c.defined_types) (x : DefinedType) where
+  defined_value_unchanged : (v : ValueType) → (NamesEntry (ItemKind.Value (ValueType.Defined id)) (ItemKind.Value v) → ⊥) → value_node (keeping m (with_defined_type c id.index x)) v ≡ value_node c v
   defined_value_unchanged (ValueType.Primitive p) h = refl
   defined_value_unchanged (ValueType.Borrow j) h = refl
   defined_value_unchanged (ValueType.Own j) h = refl
   defined_value_unchanged (ValueType.Defined j) h = entry_at-set_other defined_entry c.number c.defined_types id.index x j.collection j.index (λ p q. h (defined_same id j (p ∙ sym own) q))
 
-  defined_type_unchanged : (t : TypeKind) → (NamesEntry (ItemKind.Value (ValueType.Defined id)) (ItemKind.Ty t) → ⊥) → type_node (with_defined_type c id.index x) t ≡ type_node c t
+  defined_type_unchanged : (t : TypeKind) → (NamesEntry (ItemKind.Value (ValueType.Defined id)) (ItemKind.Ty t) → ⊥) → type_node (keeping m (with_defined_type c id.index x)) t ≡ type_node c t
   defined_type_unchanged (TypeKind.Resource j) h = refl
   defined_type_unchanged (TypeKind.Func j) h = refl
   defined_type_unchanged (TypeKind.Value v) h = ap (labelled type_of) (defined_value_unchanged v h)
@@ -197,7 +198,7 @@ module _ (c : Collection) (id : DefinedTypeId) (own : id.collection ≡ c.number
   defined_type_unchanged (TypeKind.World j) h = refl
   defined_type_unchanged (TypeKind.Module j) h = refl
 
-  pub defined_unchanged : (k : ItemKind) → (NamesEntry (ItemKind.Value (ValueType.Defined id)) k → ⊥) → item_node (with_defined_type c id.index x) k ≡ item_node c k
+  pub defined_unchanged : (k : ItemKind) → (NamesEntry (ItemKind.Value (ValueType.Defined id)) k → ⊥) → item_node (keeping m (with_defined_type c id.index x)) k ≡ item_node c k
   unfolding item_node
   defined_unchanged (ItemKind.Ty t) h = defined_type_unchanged t h
   defined_unchanged (ItemKind.Func j) h = refl
@@ -206,23 +207,23 @@ module _ (c : Collection) (id : DefinedTypeId) (own : id.collection ≡ c.number
   defined_unchanged (ItemKind.Module j) h = refl
   defined_unchanged (ItemKind.Value v) h = defined_value_unchanged v h
 
-  pub defined_changed : item_node (with_defined_type c id.index x) (ItemKind.Value (ValueType.Defined id)) ≡ Some (defined_entry x)
+  pub defined_changed : item_node (keeping m (with_defined_type c id.index x)) (ItemKind.Value (ValueType.Defined id)) ≡ Some (defined_entry x)
   unfolding item_node
   defined_changed = entry_at-set_same defined_entry c.number c.defined_types id.index x id.collection own within
 
-  pub defined_rows : length (rows (with_defined_type c id.index x)) ≡ length (rows c)
+  pub defined_rows : length (rows (keeping m (with_defined_type c id.index x))) ≡ length (rows c)
   unfolding rows
   defined_rows = simp (length-append, length-map, length-set)
 
   module _ (stood : Stands c (ItemKind.Value (ValueType.Defined id))) (acyclic : IsAcyclic c) (has : HasChildren c (defined_entry x)) (apart : LeadsBack c (ItemKind.Value (ValueType.Defined id)) (defined_entry x) → ⊥) where
-    pub defined_acyclic : IsAcyclic (with_defined_type c id.index x)
-    defined_acyclic = replaced-acyclic c (with_defined_type c id.index x) (ItemKind.Value (ValueType.Defined id)) (defined_entry x) defined_unchanged defined_changed stood defined_rows acyclic has apart
+    pub defined_acyclic : IsAcyclic (keeping m (with_defined_type c id.index x))
+    defined_acyclic = replaced-acyclic c (keeping m (with_defined_type c id.index x)) (ItemKind.Value (ValueType.Defined id)) (defined_entry x) defined_unchanged defined_changed stood defined_rows acyclic has apart
 
-    pub defined_keeps : KeepsOthers c (with_defined_type c id.index x) (ItemKind.Value (ValueType.Defined id))
-    defined_keeps = replaced-keeps c (with_defined_type c id.index x) (ItemKind.Value (ValueType.Defined id)) (defined_entry x) defined_unchanged defined_changed stood defined_rows acyclic has apart
+    pub defined_keeps : KeepsOthers c (keeping m (with_defined_type c id.index x)) (ItemKind.Value (ValueType.Defined id))
+    defined_keeps = replaced-keeps c (keeping m (with_defined_type c id.index x)) (ItemKind.Value (ValueType.Defined id)) (defined_entry x) defined_unchanged defined_changed stood defined_rows acyclic has apart
 
-    pub defined_stand : KeepsStanding c (with_defined_type c id.index x)
-    defined_stand = replaced-stand c (with_defined_type c id.index x) (ItemKind.Value (ValueType.Defined id)) (defined_entry x) defined_unchanged defined_changed stood defined_rows acyclic has apart
+    pub defined_stand : KeepsStanding c (keeping m (with_defined_type c id.index x))
+    defined_stand = replaced-stand c (keeping m (with_defined_type c id.index x)) (ItemKind.Value (ValueType.Defined id)) (defined_entry x) defined_unchanged defined_changed stood defined_rows acyclic has apart
 
 resource_same : (i j : ResourceId) → j.collection ≡ i.collection → j.index ≡ i.index → ItemKind.Ty (TypeKind.Resource j) ≡ ItemKind.Ty (TypeKind.Resource i)
 resource_same i j p q =
@@ -230,14 +231,14 @@ resource_same i j p q =
     let second : ℕ → ItemKind = λ b. ItemKind.Ty (TypeKind.Resource (record { collection = i.collection; index = b })) in
     ap first p ∙ ap second q
 
-module _ (c : Collection) (id : ResourceId) (own : id.collection ≡ c.number) (within : id.index < length c.resources) (x : Resource) where
-  resource_value_unchanged : (v : ValueType) → (NamesEntry (ItemKind.Ty (TypeKind.Resource id)) (ItemKind.Value v) → ⊥) → value_node (with_resource c id.index x) v ≡ value_node c v
+module _ (c : Collection) (m : Kept) (id : ResourceId) (own : id.collection ≡ c.number) (within : id.index < length c.resources) (x : Resource) where
+  resource_value_unchanged : (v : ValueType) → (NamesEntry (ItemKind.Ty (TypeKind.Resource id)) (ItemKind.Value v) → ⊥) → value_node (keeping m (with_resource c id.index x)) v ≡ value_node c v
   resource_value_unchanged (ValueType.Primitive p) h = refl
   resource_value_unchanged (ValueType.Borrow j) h = ap (labelled borrow_of) (entry_at-set_other resource_entry c.number c.resources id.index x j.collection j.index (λ p q. h (resource_same id j (p ∙ sym own) q)))
   resource_value_unchanged (ValueType.Own j) h = ap (labelled own_of) (entry_at-set_other resource_entry c.number c.resources id.index x j.collection j.index (λ p q. h (resource_same id j (p ∙ sym own) q)))
   resource_value_unchanged (ValueType.Defined j) h = refl
 
-  resource_type_unchanged : (t : TypeKind) → (NamesEntry (ItemKind.Ty (TypeKind.Resource id)) (ItemKind.Ty t) → ⊥) → type_node (with_resource c id.index x) t ≡ type_node c t
+  resource_type_unchanged : (t : TypeKind) → (NamesEntry (ItemKind.Ty (TypeKind.Resource id)) (ItemKind.Ty t) → ⊥) → type_node (keeping m (with_resource c id.index x)) t ≡ type_node c t
   resource_type_unchanged (TypeKind.Resource j) h = entry_at-set_other resource_entry c.number c.resources id.index x j.collection j.index (λ p q. h (resource_same id j (p ∙ sym own) q))
   resource_type_unchanged (TypeKind.Func j) h = refl
   resource_type_unchanged (TypeKind.Value v) h = ap (labelled type_of) (resource_value_unchanged v h)
@@ -245,7 +246,7 @@ module _ (c : Collection) (id : ResourceId) (own : id.collection ≡ c.number) (
   resource_type_unchanged (TypeKind.World j) h = refl
   resource_type_unchanged (TypeKind.Module j) h = refl
 
-  pub resource_unchanged : (k : ItemKind) → (NamesEntry (ItemKind.Ty (TypeKind.Resource id)) k → ⊥) → item_node (with_resource c id.index x) k ≡ item_node c k
+  pub resource_unchanged : (k : ItemKind) → (NamesEntry (ItemKind.Ty (TypeKind.Resource id)) k → ⊥) → item_node (keeping m (with_resource c id.index x)) k ≡ item_node c k
   unfolding item_node
   resource_unchanged (ItemKind.Ty t) h = resource_type_unchanged t h
   resource_unchanged (ItemKind.Func j) h = refl
@@ -254,23 +255,23 @@ module _ (c : Collection) (id : ResourceId) (own : id.collection ≡ c.number) (
   resource_unchanged (ItemKind.Module j) h = refl
   resource_unchanged (ItemKind.Value v) h = resource_value_unchanged v h
 
-  pub resource_changed : item_node (with_resource c id.index x) (ItemKind.Ty (TypeKind.Resource id)) ≡ Some (resource_entry x)
+  pub resource_changed : item_node (keeping m (with_resource c id.index x)) (ItemKind.Ty (TypeKind.Resource id)) ≡ Some (resource_entry x)
   unfolding item_node
   resource_changed = entry_at-set_same resource_entry c.number c.resources id.index x id.collection own within
 
-  pub resource_rows : length (rows (with_resource c id.index x)) ≡ length (rows c)
+  pub resource_rows : length (rows (keeping m (with_resource c id.index x))) ≡ length (rows c)
   unfolding rows
   resource_rows = simp (length-append, length-map, length-set)
 
   module _ (stood : Stands c (ItemKind.Ty (TypeKind.Resource id))) (acyclic : IsAcyclic c) (has : HasChildren c (resource_entry x)) (apart : LeadsBack c (ItemKind.Ty (TypeKind.Resource id)) (resource_entry x) → ⊥) where
-    pub resource_acyclic : IsAcyclic (with_resource c id.index x)
-    resource_acyclic = replaced-acyclic c (with_resource c id.index x) (ItemKind.Ty (TypeKind.Resource id)) (resource_entry x) resource_unchanged resource_changed stood resource_rows acyclic has apart
+    pub resource_acyclic : IsAcyclic (keeping m (with_resource c id.index x))
+    resource_acyclic = replaced-acyclic c (keeping m (with_resource c id.index x)) (ItemKind.Ty (TypeKind.Resource id)) (resource_entry x) resource_unchanged resource_changed stood resource_rows acyclic has apart
 
-    pub resource_keeps : KeepsOthers c (with_resource c id.index x) (ItemKind.Ty (TypeKind.Resource id))
-    resource_keeps = replaced-keeps c (with_resource c id.index x) (ItemKind.Ty (TypeKind.Resource id)) (resource_entry x) resource_unchanged resource_changed stood resource_rows acyclic has apart
+    pub resource_keeps : KeepsOthers c (keeping m (with_resource c id.index x)) (ItemKind.Ty (TypeKind.Resource id))
+    resource_keeps = replaced-keeps c (keeping m (with_resource c id.index x)) (ItemKind.Ty (TypeKind.Resource id)) (resource_entry x) resource_unchanged resource_changed stood resource_rows acyclic has apart
 
-    pub resource_stand : KeepsStanding c (with_resource c id.index x)
-    resource_stand = replaced-stand c (with_resource c id.index x) (ItemKind.Ty (TypeKind.Resource id)) (resource_entry x) resource_unchanged resource_changed stood resource_rows acyclic has apart
+    pub resource_stand : KeepsStanding c (keeping m (with_resource c id.index x))
+    resource_stand = replaced-stand c (keeping m (with_resource c id.index x)) (ItemKind.Ty (TypeKind.Resource id)) (resource_entry x) resource_unchanged resource_changed stood resource_rows acyclic has apart
 
 func_same : (i j : FuncTypeId) → j.collection ≡ i.collection → j.index ≡ i.index → ItemKind.Func j ≡ ItemKind.Func i
 func_same i j p q =
@@ -278,14 +279,14 @@ func_same i j p q =
     let second : ℕ → ItemKind = λ b. ItemKind.Func (record { collection = i.collection; index = b }) in
     ap first p ∙ ap second q
 
-module _ (c : Collection) (id : FuncTypeId) (own : id.collection ≡ c.number) (within : id.index < length c.func_types) (x : FuncType) where
-  func_value_unchanged : (v : ValueType) → (NamesEntry (ItemKind.Func id) (ItemKind.Value v) → ⊥) → value_node (with_func_type c id.index x) v ≡ value_node c v
+module _ (c : Collection) (m : Kept) (id : FuncTypeId) (own : id.collection ≡ c.number) (within : id.index < length c.func_types) (x : FuncType) where
+  func_value_unchanged : (v : ValueType) → (NamesEntry (ItemKind.Func id) (ItemKind.Value v) → ⊥) → value_node (keeping m (with_func_type c id.index x)) v ≡ value_node c v
   func_value_unchanged (ValueType.Primitive p) h = refl
   func_value_unchanged (ValueType.Borrow j) h = refl
   func_value_unchanged (ValueType.Own j) h = refl
   func_value_unchanged (ValueType.Defined j) h = refl
 
-  func_type_unchanged : (t : TypeKind) → (NamesEntry (ItemKind.Func id) (ItemKind.Ty t) → ⊥) → type_node (with_func_type c id.index x) t ≡ type_node c t
+  func_type_unchanged : (t : TypeKind) → (NamesEntry (ItemKind.Func id) (ItemKind.Ty t) → ⊥) → type_node (keeping m (with_func_type c id.index x)) t ≡ type_node c t
   func_type_unchanged (TypeKind.Resource j) h = refl
   func_type_unchanged (TypeKind.Func j) h = ap (labelled type_of) (entry_at-set_other func_entry c.number c.func_types id.index x j.collection j.index (λ p q. h (func_same id j (p ∙ sym own) q)))
   func_type_unchanged (TypeKind.Value v) h = ap (labelled type_of) (func_value_unchanged v h)
@@ -293,7 +294,7 @@ module _ (c : Collection) (id : FuncTypeId) (own : id.collection ≡ c.number) (
   func_type_unchanged (TypeKind.World j) h = refl
   func_type_unchanged (TypeKind.Module j) h = refl
 
-  pub func_unchanged : (k : ItemKind) → (NamesEntry (ItemKind.Func id) k → ⊥) → item_node (with_func_type c id.index x) k ≡ item_node c k
+  pub func_unchanged : (k : ItemKind) → (NamesEntry (ItemKind.Func id) k → ⊥) → item_node (keeping m (with_func_type c id.index x)) k ≡ item_node c k
   unfolding item_node
   func_unchanged (ItemKind.Ty t) h = func_type_unchanged t h
   func_unchanged (ItemKind.Func j) h = entry_at-set_other func_entry c.number c.func_types id.index x j.collection j.index (λ p q. h (func_same id j (p ∙ sym own) q))
@@ -302,23 +303,23 @@ module _ (c : Collection) (id : FuncTypeId) (own : id.collection ≡ c.number) (
   func_unchanged (ItemKind.Module j) h = refl
   func_unchanged (ItemKind.Value v) h = func_value_unchanged v h
 
-  pub func_changed : item_node (with_func_type c id.index x) (ItemKind.Func id) ≡ Some (func_entry x)
+  pub func_changed : item_node (keeping m (with_func_type c id.index x)) (ItemKind.Func id) ≡ Some (func_entry x)
   unfolding item_node
   func_changed = entry_at-set_same func_entry c.number c.func_types id.index x id.collection own within
 
-  pub func_rows : length (rows (with_func_type c id.index x)) ≡ length (rows c)
+  pub func_rows : length (rows (keeping m (with_func_type c id.index x))) ≡ length (rows c)
   unfolding rows
   func_rows = simp (length-append, length-map, length-set)
 
   module _ (stood : Stands c (ItemKind.Func id)) (acyclic : IsAcyclic c) (has : HasChildren c (func_entry x)) (apart : LeadsBack c (ItemKind.Func id) (func_entry x) → ⊥) where
-    pub func_acyclic : IsAcyclic (with_func_type c id.index x)
-    func_acyclic = replaced-acyclic c (with_func_type c id.index x) (ItemKind.Func id) (func_entry x) func_unchanged func_changed stood func_rows acyclic has apart
+    pub func_acyclic : IsAcyclic (keeping m (with_func_type c id.index x))
+    func_acyclic = replaced-acyclic c (keeping m (with_func_type c id.index x)) (ItemKind.Func id) (func_entry x) func_unchanged func_changed stood func_rows acyclic has apart
 
-    pub func_keeps : KeepsOthers c (with_func_type c id.index x) (ItemKind.Func id)
-    func_keeps = replaced-keeps c (with_func_type c id.index x) (ItemKind.Func id) (func_entry x) func_unchanged func_changed stood func_rows acyclic has apart
+    pub func_keeps : KeepsOthers c (keeping m (with_func_type c id.index x)) (ItemKind.Func id)
+    func_keeps = replaced-keeps c (keeping m (with_func_type c id.index x)) (ItemKind.Func id) (func_entry x) func_unchanged func_changed stood func_rows acyclic has apart
 
-    pub func_stand : KeepsStanding c (with_func_type c id.index x)
-    func_stand = replaced-stand c (with_func_type c id.index x) (ItemKind.Func id) (func_entry x) func_unchanged func_changed stood func_rows acyclic has apart
+    pub func_stand : KeepsStanding c (keeping m (with_func_type c id.index x))
+    func_stand = replaced-stand c (keeping m (with_func_type c id.index x)) (ItemKind.Func id) (func_entry x) func_unchanged func_changed stood func_rows acyclic has apart
 
 interface_same : (i j : InterfaceId) → j.collection ≡ i.collection → j.index ≡ i.index → ItemKind.Instance j ≡ ItemKind.Instance i
 interface_same i j p q =
@@ -326,14 +327,14 @@ interface_same i j p q =
     let second : ℕ → ItemKind = λ b. ItemKind.Instance (record { collection = i.collection; index = b }) in
     ap first p ∙ ap second q
 
-module _ (c : Collection) (id : InterfaceId) (own : id.collection ≡ c.number) (within : id.index < length c.interfaces) (x : Interface) where
-  interface_value_unchanged : (v : ValueType) → (NamesEntry (ItemKind.Instance id) (ItemKind.Value v) → ⊥) → value_node (with_interface c id.index x) v ≡ value_node c v
+module _ (c : Collection) (m : Kept) (id : InterfaceId) (own : id.collection ≡ c.number) (within : id.index < length c.interfaces) (x : Interface) where
+  interface_value_unchanged : (v : ValueType) → (NamesEntry (ItemKind.Instance id) (ItemKind.Value v) → ⊥) → value_node (keeping m (with_interface c id.index x)) v ≡ value_node c v
   interface_value_unchanged (ValueType.Primitive p) h = refl
   interface_value_unchanged (ValueType.Borrow j) h = refl
   interface_value_unchanged (ValueType.Own j) h = refl
   interface_value_unchanged (ValueType.Defined j) h = refl
 
-  interface_type_unchanged : (t : TypeKind) → (NamesEntry (ItemKind.Instance id) (ItemKind.Ty t) → ⊥) → type_node (with_interface c id.index x) t ≡ type_node c t
+  interface_type_unchanged : (t : TypeKind) → (NamesEntry (ItemKind.Instance id) (ItemKind.Ty t) → ⊥) → type_node (keeping m (with_interface c id.index x)) t ≡ type_node c t
   interface_type_unchanged (TypeKind.Resource j) h = refl
   interface_type_unchanged (TypeKind.Func j) h = refl
   interface_type_unchanged (TypeKind.Value v) h = ap (labelled type_of) (interface_value_unchanged v h)
@@ -341,7 +342,7 @@ module _ (c : Collection) (id : InterfaceId) (own : id.collection ≡ c.number) 
   interface_type_unchanged (TypeKind.World j) h = refl
   interface_type_unchanged (TypeKind.Module j) h = refl
 
-  pub interface_unchanged : (k : ItemKind) → (NamesEntry (ItemKind.Instance id) k → ⊥) → item_node (with_interface c id.index x) k ≡ item_node c k
+  pub interface_unchanged : (k : ItemKind) → (NamesEntry (ItemKind.Instance id) k → ⊥) → item_node (keeping m (with_interface c id.index x)) k ≡ item_node c k
   unfolding item_node
   interface_unchanged (ItemKind.Ty t) h = interface_type_unchanged t h
   interface_unchanged (ItemKind.Func j) h = refl
@@ -350,23 +351,23 @@ module _ (c : Collection) (id : InterfaceId) (own : id.collection ≡ c.number) 
   interface_unchanged (ItemKind.Module j) h = refl
   interface_unchanged (ItemKind.Value v) h = interface_value_unchanged v h
 
-  pub interface_changed : item_node (with_interface c id.index x) (ItemKind.Instance id) ≡ Some (interface_entry x)
+  pub interface_changed : item_node (keeping m (with_interface c id.index x)) (ItemKind.Instance id) ≡ Some (interface_entry x)
   unfolding item_node
   interface_changed = entry_at-set_same interface_entry c.number c.interfaces id.index x id.collection own within
 
-  pub interface_rows : length (rows (with_interface c id.index x)) ≡ length (rows c)
+  pub interface_rows : length (rows (keeping m (with_interface c id.index x))) ≡ length (rows c)
   unfolding rows
   interface_rows = simp (length-append, length-map, length-set)
 
   module _ (stood : Stands c (ItemKind.Instance id)) (acyclic : IsAcyclic c) (has : HasChildren c (interface_entry x)) (apart : LeadsBack c (ItemKind.Instance id) (interface_entry x) → ⊥) where
-    pub interface_acyclic : IsAcyclic (with_interface c id.index x)
-    interface_acyclic = replaced-acyclic c (with_interface c id.index x) (ItemKind.Instance id) (interface_entry x) interface_unchanged interface_changed stood interface_rows acyclic has apart
+    pub interface_acyclic : IsAcyclic (keeping m (with_interface c id.index x))
+    interface_acyclic = replaced-acyclic c (keeping m (with_interface c id.index x)) (ItemKind.Instance id) (interface_entry x) interface_unchanged interface_changed stood interface_rows acyclic has apart
 
-    pub interface_keeps : KeepsOthers c (with_interface c id.index x) (ItemKind.Instance id)
-    interface_keeps = replaced-keeps c (with_interface c id.index x) (ItemKind.Instance id) (interface_entry x) interface_unchanged interface_changed stood interface_rows acyclic has apart
+    pub interface_keeps : KeepsOthers c (keeping m (with_interface c id.index x)) (ItemKind.Instance id)
+    interface_keeps = replaced-keeps c (keeping m (with_interface c id.index x)) (ItemKind.Instance id) (interface_entry x) interface_unchanged interface_changed stood interface_rows acyclic has apart
 
-    pub interface_stand : KeepsStanding c (with_interface c id.index x)
-    interface_stand = replaced-stand c (with_interface c id.index x) (ItemKind.Instance id) (interface_entry x) interface_unchanged interface_changed stood interface_rows acyclic has apart
+    pub interface_stand : KeepsStanding c (keeping m (with_interface c id.index x))
+    interface_stand = replaced-stand c (keeping m (with_interface c id.index x)) (ItemKind.Instance id) (interface_entry x) interface_unchanged interface_changed stood interface_rows acyclic has apart
 
 world_same : (i j : WorldId) → j.collection ≡ i.collection → j.index ≡ i.index → ItemKind.Component j ≡ ItemKind.Component i
 world_same i j p q =
@@ -374,14 +375,14 @@ world_same i j p q =
     let second : ℕ → ItemKind = λ b. ItemKind.Component (record { collection = i.collection; index = b }) in
     ap first p ∙ ap second q
 
-module _ (c : Collection) (id : WorldId) (own : id.collection ≡ c.number) (within : id.index < length c.worlds) (x : World) where
-  world_value_unchanged : (v : ValueType) → (NamesEntry (ItemKind.Component id) (ItemKind.Value v) → ⊥) → value_node (with_world c id.index x) v ≡ value_node c v
+module _ (c : Collection) (m : Kept) (id : WorldId) (own : id.collection ≡ c.number) (within : id.index < length c.worlds) (x : World) where
+  world_value_unchanged : (v : ValueType) → (NamesEntry (ItemKind.Component id) (ItemKind.Value v) → ⊥) → value_node (keeping m (with_world c id.index x)) v ≡ value_node c v
   world_value_unchanged (ValueType.Primitive p) h = refl
   world_value_unchanged (ValueType.Borrow j) h = refl
   world_value_unchanged (ValueType.Own j) h = refl
   world_value_unchanged (ValueType.Defined j) h = refl
 
-  world_type_unchanged : (t : TypeKind) → (NamesEntry (ItemKind.Component id) (ItemKind.Ty t) → ⊥) → type_node (with_world c id.index x) t ≡ type_node c t
+  world_type_unchanged : (t : TypeKind) → (NamesEntry (ItemKind.Component id) (ItemKind.Ty t) → ⊥) → type_node (keeping m (with_world c id.index x)) t ≡ type_node c t
   world_type_unchanged (TypeKind.Resource j) h = refl
   world_type_unchanged (TypeKind.Func j) h = refl
   world_type_unchanged (TypeKind.Value v) h = ap (labelled type_of) (world_value_unchanged v h)
@@ -389,7 +390,7 @@ module _ (c : Collection) (id : WorldId) (own : id.collection ≡ c.number) (wit
   world_type_unchanged (TypeKind.World j) h = ap (labelled type_of) (entry_at-set_other world_entry c.number c.worlds id.index x j.collection j.index (λ p q. h (world_same id j (p ∙ sym own) q)))
   world_type_unchanged (TypeKind.Module j) h = refl
 
-  pub world_unchanged : (k : ItemKind) → (NamesEntry (ItemKind.Component id) k → ⊥) → item_node (with_world c id.index x) k ≡ item_node c k
+  pub world_unchanged : (k : ItemKind) → (NamesEntry (ItemKind.Component id) k → ⊥) → item_node (keeping m (with_world c id.index x)) k ≡ item_node c k
   unfolding item_node
   world_unchanged (ItemKind.Ty t) h = world_type_unchanged t h
   world_unchanged (ItemKind.Func j) h = refl
@@ -398,23 +399,23 @@ module _ (c : Collection) (id : WorldId) (own : id.collection ≡ c.number) (wit
   world_unchanged (ItemKind.Module j) h = refl
   world_unchanged (ItemKind.Value v) h = world_value_unchanged v h
 
-  pub world_changed : item_node (with_world c id.index x) (ItemKind.Component id) ≡ Some (world_entry x)
+  pub world_changed : item_node (keeping m (with_world c id.index x)) (ItemKind.Component id) ≡ Some (world_entry x)
   unfolding item_node
   world_changed = entry_at-set_same world_entry c.number c.worlds id.index x id.collection own within
 
-  pub world_rows : length (rows (with_world c id.index x)) ≡ length (rows c)
+  pub world_rows : length (rows (keeping m (with_world c id.index x))) ≡ length (rows c)
   unfolding rows
   world_rows = simp (length-append, length-map, length-set)
 
   module _ (stood : Stands c (ItemKind.Component id)) (acyclic : IsAcyclic c) (has : HasChildren c (world_entry x)) (apart : LeadsBack c (ItemKind.Component id) (world_entry x) → ⊥) where
-    pub world_acyclic : IsAcyclic (with_world c id.index x)
-    world_acyclic = replaced-acyclic c (with_world c id.index x) (ItemKind.Component id) (world_entry x) world_unchanged world_changed stood world_rows acyclic has apart
+    pub world_acyclic : IsAcyclic (keeping m (with_world c id.index x))
+    world_acyclic = replaced-acyclic c (keeping m (with_world c id.index x)) (ItemKind.Component id) (world_entry x) world_unchanged world_changed stood world_rows acyclic has apart
 
-    pub world_keeps : KeepsOthers c (with_world c id.index x) (ItemKind.Component id)
-    world_keeps = replaced-keeps c (with_world c id.index x) (ItemKind.Component id) (world_entry x) world_unchanged world_changed stood world_rows acyclic has apart
+    pub world_keeps : KeepsOthers c (keeping m (with_world c id.index x)) (ItemKind.Component id)
+    world_keeps = replaced-keeps c (keeping m (with_world c id.index x)) (ItemKind.Component id) (world_entry x) world_unchanged world_changed stood world_rows acyclic has apart
 
-    pub world_stand : KeepsStanding c (with_world c id.index x)
-    world_stand = replaced-stand c (with_world c id.index x) (ItemKind.Component id) (world_entry x) world_unchanged world_changed stood world_rows acyclic has apart
+    pub world_stand : KeepsStanding c (keeping m (with_world c id.index x))
+    world_stand = replaced-stand c (keeping m (with_world c id.index x)) (ItemKind.Component id) (world_entry x) world_unchanged world_changed stood world_rows acyclic has apart
 
 module_same : (i j : ModuleTypeId) → j.collection ≡ i.collection → j.index ≡ i.index → ItemKind.Module j ≡ ItemKind.Module i
 module_same i j p q =
@@ -422,14 +423,14 @@ module_same i j p q =
     let second : ℕ → ItemKind = λ b. ItemKind.Module (record { collection = i.collection; index = b }) in
     ap first p ∙ ap second q
 
-module _ (c : Collection) (id : ModuleTypeId) (own : id.collection ≡ c.number) (within : id.index < length c.modules) (x : ModuleType) where
-  module_value_unchanged : (v : ValueType) → (NamesEntry (ItemKind.Module id) (ItemKind.Value v) → ⊥) → value_node (with_module_type c id.index x) v ≡ value_node c v
+module _ (c : Collection) (m : Kept) (id : ModuleTypeId) (own : id.collection ≡ c.number) (within : id.index < length c.modules) (x : ModuleType) where
+  module_value_unchanged : (v : ValueType) → (NamesEntry (ItemKind.Module id) (ItemKind.Value v) → ⊥) → value_node (keeping m (with_module_type c id.index x)) v ≡ value_node c v
   module_value_unchanged (ValueType.Primitive p) h = refl
   module_value_unchanged (ValueType.Borrow j) h = refl
   module_value_unchanged (ValueType.Own j) h = refl
   module_value_unchanged (ValueType.Defined j) h = refl
 
-  module_type_unchanged : (t : TypeKind) → (NamesEntry (ItemKind.Module id) (ItemKind.Ty t) → ⊥) → type_node (with_module_type c id.index x) t ≡ type_node c t
+  module_type_unchanged : (t : TypeKind) → (NamesEntry (ItemKind.Module id) (ItemKind.Ty t) → ⊥) → type_node (keeping m (with_module_type c id.index x)) t ≡ type_node c t
   module_type_unchanged (TypeKind.Resource j) h = refl
   module_type_unchanged (TypeKind.Func j) h = refl
   module_type_unchanged (TypeKind.Value v) h = ap (labelled type_of) (module_value_unchanged v h)
@@ -437,7 +438,7 @@ module _ (c : Collection) (id : ModuleTypeId) (own : id.collection ≡ c.number)
   module_type_unchanged (TypeKind.World j) h = refl
   module_type_unchanged (TypeKind.Module j) h = ap (labelled type_of) (entry_at-set_other module_entry c.number c.modules id.index x j.collection j.index (λ p q. h (module_same id j (p ∙ sym own) q)))
 
-  pub module_unchanged : (k : ItemKind) → (NamesEntry (ItemKind.Module id) k → ⊥) → item_node (with_module_type c id.index x) k ≡ item_node c k
+  pub module_unchanged : (k : ItemKind) → (NamesEntry (ItemKind.Module id) k → ⊥) → item_node (keeping m (with_module_type c id.index x)) k ≡ item_node c k
   unfolding item_node
   module_unchanged (ItemKind.Ty t) h = module_type_unchanged t h
   module_unchanged (ItemKind.Func j) h = refl
@@ -446,20 +447,20 @@ module _ (c : Collection) (id : ModuleTypeId) (own : id.collection ≡ c.number)
   module_unchanged (ItemKind.Module j) h = entry_at-set_other module_entry c.number c.modules id.index x j.collection j.index (λ p q. h (module_same id j (p ∙ sym own) q))
   module_unchanged (ItemKind.Value v) h = module_value_unchanged v h
 
-  pub module_changed : item_node (with_module_type c id.index x) (ItemKind.Module id) ≡ Some (module_entry x)
+  pub module_changed : item_node (keeping m (with_module_type c id.index x)) (ItemKind.Module id) ≡ Some (module_entry x)
   unfolding item_node
   module_changed = entry_at-set_same module_entry c.number c.modules id.index x id.collection own within
 
-  pub module_rows : length (rows (with_module_type c id.index x)) ≡ length (rows c)
+  pub module_rows : length (rows (keeping m (with_module_type c id.index x))) ≡ length (rows c)
   unfolding rows
   module_rows = simp (length-append, length-map, length-set)
 
   module _ (stood : Stands c (ItemKind.Module id)) (acyclic : IsAcyclic c) (has : HasChildren c (module_entry x)) (apart : LeadsBack c (ItemKind.Module id) (module_entry x) → ⊥) where
-    pub module_acyclic : IsAcyclic (with_module_type c id.index x)
-    module_acyclic = replaced-acyclic c (with_module_type c id.index x) (ItemKind.Module id) (module_entry x) module_unchanged module_changed stood module_rows acyclic has apart
+    pub module_acyclic : IsAcyclic (keeping m (with_module_type c id.index x))
+    module_acyclic = replaced-acyclic c (keeping m (with_module_type c id.index x)) (ItemKind.Module id) (module_entry x) module_unchanged module_changed stood module_rows acyclic has apart
 
-    pub module_keeps : KeepsOthers c (with_module_type c id.index x) (ItemKind.Module id)
-    module_keeps = replaced-keeps c (with_module_type c id.index x) (ItemKind.Module id) (module_entry x) module_unchanged module_changed stood module_rows acyclic has apart
+    pub module_keeps : KeepsOthers c (keeping m (with_module_type c id.index x)) (ItemKind.Module id)
+    module_keeps = replaced-keeps c (keeping m (with_module_type c id.index x)) (ItemKind.Module id) (module_entry x) module_unchanged module_changed stood module_rows acyclic has apart
 
-    pub module_stand : KeepsStanding c (with_module_type c id.index x)
-    module_stand = replaced-stand c (with_module_type c id.index x) (ItemKind.Module id) (module_entry x) module_unchanged module_changed stood module_rows acyclic has apart
+    pub module_stand : KeepsStanding c (keeping m (with_module_type c id.index x))
+    module_stand = replaced-stand c (keeping m (with_module_type c id.index x)) (ItemKind.Module id) (module_entry x) module_unchanged module_changed stood module_rows acyclic has apart

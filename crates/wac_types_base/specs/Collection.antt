@@ -13,7 +13,7 @@ use Rattle.wac_types_base.specs.declared.defined.FuncType.{FuncType}
 use Rattle.wac_types_base.specs.declared.defined.Interface.{Interface}
 use Rattle.wac_types_base.specs.declared.defined.World.{World}
 use Rattle.wac_types_base.specs.declared.core_types.ModuleType.{ModuleType}
-use Rattle.wac_types_base.specs.Record.{Collection}
+use Rattle.wac_types_base.specs.Record.{Collection, Kept}
 use Rattle.wac_types_base.specs.Entries.{Name, names_of, values_of}
 use Rattle.wac_types_base.specs.Graph.{Whole, whole, UnfoldsWithin, nodes}
 
@@ -162,9 +162,21 @@ module _ (c : Collection) where
   unfoldable pub IsAcyclic : Type 0
   IsAcyclic = UnfoldsWithin item_node depth
 
+abbrev pub none_kept : Kept
+none_kept = record { defined_types = []; resources = []; func_types = []; interfaces = []; worlds = []; modules = [] }
+
 -- a collection with no entries
 abbrev pub empty : ℕ → Collection
-empty n = record { number = n; defined_types = []; resources = []; func_types = []; interfaces = []; worlds = []; modules = [] }
+empty n = record {
+  number = n;
+  defined_types = [];
+  resources = [];
+  func_types = [];
+  interfaces = [];
+  worlds = [];
+  modules = [];
+  kept = none_kept;
+}
 
 -- what is in a place stands
 abbrev pub SlotStands : Collection → Slot → Type 0
@@ -183,7 +195,7 @@ HasChildren c e = All (SlotStands c) e.1
 abbrev pub KeepsTrees : Collection → Collection → Type 0
 KeepsTrees old new = (k : ItemKind) → Stands old k → unfolding_of new k ≡ unfolding_of old k
 
--- c, with the entries of d after its own
+-- c, with the entries of d after its own, where what d keeps is kept
 abbrev pub plus : Collection → Collection → Collection
 plus c d = record {
   number = c.number;
@@ -193,6 +205,7 @@ plus c d = record {
   interfaces = c.interfaces ++ d.interfaces;
   worlds = c.worlds ++ d.worlds;
   modules = c.modules ++ d.modules;
+  kept = d.kept;
 }
 
 abbrev pub slots_in : Option Entry → List Slot

@@ -60,3 +60,8 @@ put_name ms n = if has_name ms n then ms else ms ++ n ∷ []
 -- the same names with other values
 abbrev pub with_values : {N T U : Type 0} → (T → U) → List (N × T) → List (N × U)
 with_values f xs = map (λ x. (x.0, f x.1)) xs
+
+-- each of the others is among the first
+abbrev pub EachAmong : {T : Type 0} → List T → List T → Type 0
+EachAmong xs [] = Unit {0}
+EachAmong xs (y ∷ ys) = Among y xs × EachAmong xs ys

@@ -7,7 +7,16 @@ use Rattle.wac_types_base.specs.declared.defined.Interface.{Interface}
 use Rattle.wac_types_base.specs.declared.defined.World.{World}
 use Rattle.wac_types_base.specs.declared.core_types.ModuleType.{ModuleType}
 
--- a number and six lists, each in order of adding
+-- what is kept, by kind, each in order of keeping
+pub record Kept : Type 0 where
+  pub defined_types : List DefinedType
+  pub resources : List Resource
+  pub func_types : List FuncType
+  pub interfaces : List Interface
+  pub worlds : List World
+  pub modules : List ModuleType
+
+-- a number, six lists, each in order of adding, and what is kept
 pub record Collection : Type 0 where
   pub number : ℕ
   pub defined_types : List DefinedType
@@ -16,3 +25,4 @@ pub record Collection : Type 0 where
   pub interfaces : List Interface
   pub worlds : List World
   pub modules : List ModuleType
+  pub kept : Kept

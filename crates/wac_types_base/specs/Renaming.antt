@@ -115,7 +115,7 @@ under n = record {
 abbrev pub kind_under : ℕ → ItemKind → ItemKind
 kind_under n k = kind_renamed (under n) k
 
--- the same lists under this number, each id in them with it
+-- the same lists under this number, each id in them with it, over what was kept
 abbrev pub renumbered : ℕ → Collection → Collection
 renumbered n c = record {
   number = n;
@@ -125,4 +125,5 @@ renumbered n c = record {
   interfaces = map (interface_renamed (under n)) c.interfaces;
   worlds = map (world_renamed (under n)) c.worlds;
   modules = c.modules;
+  kept = c.kept;
 }

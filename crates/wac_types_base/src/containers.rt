@@ -32,6 +32,13 @@ impl Text {
         Text { string }
     }
 
+    /// A text of its own.
+    pub fn from_str(alloc: Global, text: &str) -> Result<Self, AllocError>
+        ensures { IfOk result (λ t. t ≡ text.now) }
+    {
+        Ok(Text::new(String::from_str(alloc, text)?))
+    }
+
     /// The string.
     pub fn into_string(self) -> String
         ensures { string_bytes result ≡ self }

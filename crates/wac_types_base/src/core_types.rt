@@ -48,14 +48,14 @@ pub enum CoreType {
 }
 
 /// A core function type.
-#[derive(Drop)]
+#[derive(PartialEq, Eq, Hash, Drop)]
 pub struct CoreFuncType {
     pub params: Items<CoreType>,
     pub results: Items<CoreType>,
 }
 
 /// An item that a core module imports or exports.
-#[derive(Drop)]
+#[derive(PartialEq, Eq, Hash, Drop)]
 pub enum CoreExtern {
     Func(CoreFuncType),
     Table {
@@ -167,7 +167,7 @@ impl CoreImports {
 }
 
 /// A module type.
-#[derive(Drop)]
+#[derive(PartialEq, Eq, Hash, Drop)]
 pub struct ModuleType {
     pub imports: CoreImports,
     pub exports: NamedMap<CoreExtern>,

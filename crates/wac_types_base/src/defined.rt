@@ -8,27 +8,27 @@ use crate::item::{ItemKind, ValueType};
 use std::alloc::{AllocError, Global};
 
 /// A variant: its cases in order, each with a payload or none.
-#[derive(Drop)]
+#[derive(PartialEq, Eq, Hash, Drop)]
 pub struct Variant {
     pub cases: NamedMap<Option<ValueType>>,
 }
 
 /// A record: its fields in order.
-#[derive(Drop)]
+#[derive(PartialEq, Eq, Hash, Drop)]
 pub struct Record {
     pub fields: NamedMap<ValueType>,
 }
 
 /// Flags, in order.
-#[derive(Drop)]
+#[derive(PartialEq, Eq, Hash, Drop)]
 pub struct Flags(pub Names);
 
 /// An enumeration: its cases in order.
-#[derive(Drop)]
+#[derive(PartialEq, Eq, Hash, Drop)]
 pub struct Enum(pub Names);
 
 /// A defined type.
-#[derive(Drop)]
+#[derive(PartialEq, Eq, Hash, Drop)]
 pub enum DefinedType {
     Tuple(Items<ValueType>),
     List(ValueType),
@@ -57,14 +57,14 @@ pub struct ResourceAlias {
 }
 
 /// A resource, or another name of one.
-#[derive(Drop)]
+#[derive(PartialEq, Eq, Hash, Drop)]
 pub struct Resource {
     pub name: Text,
     pub alias: Option<ResourceAlias>,
 }
 
 /// A function type.
-#[derive(Drop)]
+#[derive(PartialEq, Eq, Hash, Drop)]
 pub struct FuncType {
     pub params: NamedMap<ValueType>,
     pub result: Option<ValueType>,
@@ -72,7 +72,7 @@ pub struct FuncType {
 }
 
 /// A type that is used from another interface.
-#[derive(Drop)]
+#[derive(PartialEq, Eq, Hash, Drop)]
 pub struct UsedType {
     pub interface: InterfaceId,
     /// The name there, where it is another than here.
@@ -80,7 +80,7 @@ pub struct UsedType {
 }
 
 /// An interface.
-#[derive(Drop)]
+#[derive(PartialEq, Eq, Hash, Drop)]
 pub struct Interface {
     /// The identifier, as `a:b/c@1.0.0`.
     pub id: Option<Text>,
@@ -89,7 +89,7 @@ pub struct Interface {
 }
 
 /// A world.
-#[derive(Drop)]
+#[derive(PartialEq, Eq, Hash, Drop)]
 pub struct World {
     /// The identifier, as `a:b/c@1.0.0`.
     pub id: Option<Text>,

@@ -7,14 +7,18 @@ pub mod copy;
 pub mod core_types;
 pub mod defined;
 pub mod desc;
+mod entries;
+mod equal;
 pub mod ids;
 pub mod implicit;
 pub mod item;
 pub mod laws;
+mod once;
 mod remap;
 pub mod renumber;
 pub mod replace;
 pub mod resolve;
+pub mod sharing;
 pub mod types;
 pub mod types_mut;
 pub mod visit;
@@ -29,6 +33,7 @@ pub use defined::{
     DefinedType, Enum, Flags, FuncType, Interface, Record, Resource, ResourceAlias, UsedType,
     Variant, World, copy_items, copy_text, copy_uses,
 };
+pub use entries::EntryIter;
 pub use ids::{DefinedTypeId, FuncTypeId, InterfaceId, ModuleTypeId, ResourceId, WorldId};
 pub use implicit::TargetError;
 pub use item::{ExternKind, FuncKind, ItemKind, PrimitiveType, Type, ValueType};

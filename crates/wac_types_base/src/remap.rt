@@ -10,6 +10,7 @@ use crate::defined::{
     DefinedType, Enum, Flags, FuncType, Interface, Record, Resource, ResourceAlias, UsedType,
     Variant, World, copy_text,
 };
+use crate::entries::{Entries, Once};
 use crate::item::{ItemKind, ValueType};
 use std::alloc::{AllocError, Global};
 
@@ -78,6 +79,22 @@ pub(crate) fn remap_all<T: Remap>(
     for item in items {
         let item = item.remap(alloc, copies)?;
         copy.push(item)?;
+    }
+    Ok(copy)
+}
+
+/// Each of the entries written again, at its index. What is equal then is kept once.
+pub(crate) fn remap_entries<T: Remap + Once>(
+    alloc: Global,
+    entries: &Entries<T>,
+    copies: &Copies,
+) -> Result<Entries<T>, AllocError>
+    ensures { IfOk result (λ r. r.given ≡ map (T.remapped copies.now) entries.now.given) }
+{
+    let mut copy = Entries::new(alloc);
+    for entry in entries.iter() {
+        let entry = entry.remap(alloc, copies)?;
+        let _ = copy.push(entry)?;
     }
     Ok(copy)
 }

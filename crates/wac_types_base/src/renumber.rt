@@ -3,30 +3,31 @@
 ghost use Rattle.std.specs.Prelude.{◌≡◌, IfOk};
 ghost use Rattle.wac_types_base.specs.declared.item.ItemKind.{ItemKind};
 ghost use Rattle.wac_types_base.specs.Collection.{Stands};
+ghost use Rattle.wac_types_base.specs.Kept.{keeping};
 ghost use Rattle.wac_types_base.specs.Copying.{IsCopy};
 ghost use Rattle.wac_types_base.specs.Renaming.{under, value_renamed, type_renamed, kind_under, renumbered};
 
 use crate::copies::Copies;
 use crate::ids::{DefinedTypeId, FuncTypeId, InterfaceId, ModuleTypeId, ResourceId, WorldId};
 use crate::item::{ItemKind, Type, ValueType};
-use crate::remap::remap_all;
+use crate::remap::remap_entries;
 use crate::types::Types;
 use std::alloc::{AllocError, Global};
 
 impl Types {
     /// The same types under another number: each entry at its index, and each id in it with that number.
     pub fn copy_as(&self, alloc: Global, number: u64) -> Result<Types, AllocError>
-        ensures renumbered { IfOk result (λ t. t ≡ renumbered number self.now) }
+        ensures renumbered { IfOk result (λ t. t ≡ keeping t.kept (renumbered number self.now)) }
         ensures copied { IfOk result (λ t. (k : ItemKind) → Stands self.now k → IsCopy self.now t k (kind_under number k)) }
     {
         self.see_acyclic();
         let same_indexes = Copies::new(alloc, number);
-        let defined_types = remap_all(alloc, self.defined_types.as_slice(), &same_indexes)?;
-        let resources = remap_all(alloc, self.resources.as_slice(), &same_indexes)?;
-        let func_types = remap_all(alloc, self.func_types.as_slice(), &same_indexes)?;
-        let interfaces = remap_all(alloc, self.interfaces.as_slice(), &same_indexes)?;
-        let worlds = remap_all(alloc, self.worlds.as_slice(), &same_indexes)?;
-        let modules = remap_all(alloc, self.modules.as_slice(), &same_indexes)?;
+        let defined_types = remap_entries(alloc, &self.defined_types, &same_indexes)?;
+        let resources = remap_entries(alloc, &self.resources, &same_indexes)?;
+        let func_types = remap_entries(alloc, &self.func_types, &same_indexes)?;
+        let interfaces = remap_entries(alloc, &self.interfaces, &same_indexes)?;
+        let worlds = remap_entries(alloc, &self.worlds, &same_indexes)?;
+        let modules = remap_entries(alloc, &self.modules, &same_indexes)?;
         Ok(Types {
             number,
             defined_types,

@@ -1,6 +1,8 @@
 //! Replacing entries, where nothing comes to reach itself.
 
-ghost use Rattle.std.specs.Prelude.{◌≡◌, ◌↔◌, ◌<◌, IsTrue, OnOk, OnErr, slice_set, vec_len};
+ghost use Rattle.std.specs.Prelude.{◌≡◌, ◌↔◌, IsTrue, OnOk, OnErr, IfErr};
+ghost use Rattle.wac_types_base.specs.Kept.{keeping, KeepsDefinedType, KeepsResource, KeepsFuncType, KeepsInterface, KeepsWorld, KeepsModuleType};
+ghost use Rattle.wac_types_base.specs.declared.replace.CycleError.{CycleError};
 ghost use Rattle.wac_types_base.specs.Collection.{Stands, HasChildren, item_node, defined_entry, resource_entry, func_entry, interface_entry, world_entry, module_entry};
 ghost use Rattle.wac_types_base.specs.Reaching.{Reaches, LeadsBack, NamesEntry, KeepsOthers, KeepsStanding, value_entry_kind, entry_kind, with_defined_type, with_resource, with_func_type, with_interface, with_world, with_module_type};
 
@@ -10,6 +12,7 @@ use crate::ids::{DefinedTypeId, FuncTypeId, InterfaceId, ModuleTypeId, ResourceI
 use crate::item::{ItemKind, Type, ValueType};
 use crate::types::Types;
 use crate::walk::Places;
+use std::alloc::AllocError;
 use std::error::Error;
 use std::fmt;
 
@@ -18,15 +21,31 @@ use std::fmt;
 pub enum CycleError {
     /// The entry would reach itself.
     Cycle,
+    /// Memory was refused.
+    Memory,
 }
 
 impl fmt::Display for CycleError {
     fn fmt<W: fmt::Write>(&self, f: &mut fmt::Formatter<W>) -> fmt::Result {
-        f.write_str("the entry would reach itself")
+        f.write_str(match self {
+            CycleError::Cycle => "the entry would reach itself",
+            CycleError::Memory => "out of memory",
+        })
     }
 }
 
 impl Error for CycleError {}
+
+impl From<AllocError> for CycleError {
+    ghost use Rattle.std.specs.Prelude.{◌≡◌};
+    ghost use Rattle.wac_types_base.specs.declared.replace.CycleError.{CycleError};
+
+    ghost from_gives = { λ _ e. e ≡ CycleError.Memory };
+
+    fn from(_error: AllocError) -> Self {
+        CycleError::Memory
+    }
+}
 
 /// Whether two kinds are the same.
 pub fn is_same(a: ItemKind, b: ItemKind) -> bool
@@ -104,21 +123,11 @@ impl Types {
     }
 }
 
-// What is generic in the type of an entry needs nothing of what the entry holds, so its proof is short.
-
-/// Puts a value in the place of another.
-fn put<T: Drop>(list: &mut Vec<T>, at: usize, value: T)
-    requires { at < vec_len list.old }
-    ensures { list.new.items ≡ slice_set list.old.items at value }
-{
-    list[at] = value;
-}
-
-/// Lets a value go.
+/// Lets a value go. It is generic in the value, and needs nothing of what that holds, so its proof is short.
 fn let_go<T: Drop>(_value: T) {}
 
 // Each entry that is put in may hold ids of this collection alone, which `contains` tests. It is refused where the id
-// would reach itself, and then nothing is changed.
+// would reach itself, or where it is kept for the first time and memory is refused. Then nothing is changed.
 impl Types {
     /// Puts another entry under the id of a defined type.
     pub fn replace_defined_type(
@@ -128,10 +137,12 @@ impl Types {
     ) -> Result<(), CycleError>
         requires stands { Stands self.old (ItemKind.Value (ValueType.Defined id)) }
         requires children { HasChildren self.old (defined_entry ty) }
-        ensures replaced { OnOk result (self.new ≡ with_defined_type self.old id.index ty) }
+        ensures replaced { OnOk result (self.new ≡ keeping self.new.kept (with_defined_type self.old id.index ty)) }
+        ensures kept { OnOk result (KeepsDefinedType self.old.kept self.new.kept ty) }
         ensures refused { OnErr result (self.new ≡ self.old) }
         ensures no_cycle { OnOk result (LeadsBack self.old (ItemKind.Value (ValueType.Defined id)) (defined_entry ty) → ⊥) }
-        ensures cycle { OnErr result (LeadsBack self.old (ItemKind.Value (ValueType.Defined id)) (defined_entry ty)) }
+        ensures cycle { IfErr result
+            (λ e. (e ≡ CycleError.Cycle) ↔ LeadsBack self.old (ItemKind.Value (ValueType.Defined id)) (defined_entry ty)) }
         ensures stand { KeepsStanding self.old self.new }
         ensures keeps { OnOk result (KeepsOthers self.old self.new (ItemKind.Value (ValueType.Defined id))) }
     {
@@ -139,7 +150,7 @@ impl Types {
             let_go(ty);
             return Err(CycleError::Cycle);
         }
-        put(&mut self.defined_types, id.index, ty);
+        self.defined_types.put(id.index, ty)?;
         Ok(())
     }
 
@@ -147,10 +158,12 @@ impl Types {
     pub fn replace_resource(&mut self, id: ResourceId, resource: Resource) -> Result<(), CycleError>
         requires stands { Stands self.old (ItemKind.Ty (Type.Resource id)) }
         requires children { HasChildren self.old (resource_entry resource) }
-        ensures replaced { OnOk result (self.new ≡ with_resource self.old id.index resource) }
+        ensures replaced { OnOk result (self.new ≡ keeping self.new.kept (with_resource self.old id.index resource)) }
+        ensures kept { OnOk result (KeepsResource self.old.kept self.new.kept resource) }
         ensures refused { OnErr result (self.new ≡ self.old) }
         ensures no_cycle { OnOk result (LeadsBack self.old (ItemKind.Ty (Type.Resource id)) (resource_entry resource) → ⊥) }
-        ensures cycle { OnErr result (LeadsBack self.old (ItemKind.Ty (Type.Resource id)) (resource_entry resource)) }
+        ensures cycle { IfErr result
+            (λ e. (e ≡ CycleError.Cycle) ↔ LeadsBack self.old (ItemKind.Ty (Type.Resource id)) (resource_entry resource)) }
         ensures stand { KeepsStanding self.old self.new }
         ensures keeps { OnOk result (KeepsOthers self.old self.new (ItemKind.Ty (Type.Resource id))) }
     {
@@ -158,7 +171,7 @@ impl Types {
             let_go(resource);
             return Err(CycleError::Cycle);
         }
-        put(&mut self.resources, id.index, resource);
+        self.resources.put(id.index, resource)?;
         Ok(())
     }
 
@@ -166,10 +179,12 @@ impl Types {
     pub fn replace_func_type(&mut self, id: FuncTypeId, func: FuncType) -> Result<(), CycleError>
         requires stands { Stands self.old (ItemKind.Func id) }
         requires children { HasChildren self.old (func_entry func) }
-        ensures replaced { OnOk result (self.new ≡ with_func_type self.old id.index func) }
+        ensures replaced { OnOk result (self.new ≡ keeping self.new.kept (with_func_type self.old id.index func)) }
+        ensures kept { OnOk result (KeepsFuncType self.old.kept self.new.kept func) }
         ensures refused { OnErr result (self.new ≡ self.old) }
         ensures no_cycle { OnOk result (LeadsBack self.old (ItemKind.Func id) (func_entry func) → ⊥) }
-        ensures cycle { OnErr result (LeadsBack self.old (ItemKind.Func id) (func_entry func)) }
+        ensures cycle { IfErr result
+            (λ e. (e ≡ CycleError.Cycle) ↔ LeadsBack self.old (ItemKind.Func id) (func_entry func)) }
         ensures stand { KeepsStanding self.old self.new }
         ensures keeps { OnOk result (KeepsOthers self.old self.new (ItemKind.Func id)) }
     {
@@ -177,7 +192,7 @@ impl Types {
             let_go(func);
             return Err(CycleError::Cycle);
         }
-        put(&mut self.func_types, id.index, func);
+        self.func_types.put(id.index, func)?;
         Ok(())
     }
 
@@ -189,10 +204,12 @@ impl Types {
     ) -> Result<(), CycleError>
         requires stands { Stands self.old (ItemKind.Instance id) }
         requires children { HasChildren self.old (interface_entry interface) }
-        ensures replaced { OnOk result (self.new ≡ with_interface self.old id.index interface) }
+        ensures replaced { OnOk result (self.new ≡ keeping self.new.kept (with_interface self.old id.index interface)) }
+        ensures kept { OnOk result (KeepsInterface self.old.kept self.new.kept interface) }
         ensures refused { OnErr result (self.new ≡ self.old) }
         ensures no_cycle { OnOk result (LeadsBack self.old (ItemKind.Instance id) (interface_entry interface) → ⊥) }
-        ensures cycle { OnErr result (LeadsBack self.old (ItemKind.Instance id) (interface_entry interface)) }
+        ensures cycle { IfErr result
+            (λ e. (e ≡ CycleError.Cycle) ↔ LeadsBack self.old (ItemKind.Instance id) (interface_entry interface)) }
         ensures stand { KeepsStanding self.old self.new }
         ensures keeps { OnOk result (KeepsOthers self.old self.new (ItemKind.Instance id)) }
     {
@@ -200,7 +217,7 @@ impl Types {
             let_go(interface);
             return Err(CycleError::Cycle);
         }
-        put(&mut self.interfaces, id.index, interface);
+        self.interfaces.put(id.index, interface)?;
         Ok(())
     }
 
@@ -208,10 +225,12 @@ impl Types {
     pub fn replace_world(&mut self, id: WorldId, world: World) -> Result<(), CycleError>
         requires stands { Stands self.old (ItemKind.Component id) }
         requires children { HasChildren self.old (world_entry world) }
-        ensures replaced { OnOk result (self.new ≡ with_world self.old id.index world) }
+        ensures replaced { OnOk result (self.new ≡ keeping self.new.kept (with_world self.old id.index world)) }
+        ensures kept { OnOk result (KeepsWorld self.old.kept self.new.kept world) }
         ensures refused { OnErr result (self.new ≡ self.old) }
         ensures no_cycle { OnOk result (LeadsBack self.old (ItemKind.Component id) (world_entry world) → ⊥) }
-        ensures cycle { OnErr result (LeadsBack self.old (ItemKind.Component id) (world_entry world)) }
+        ensures cycle { IfErr result
+            (λ e. (e ≡ CycleError.Cycle) ↔ LeadsBack self.old (ItemKind.Component id) (world_entry world)) }
         ensures stand { KeepsStanding self.old self.new }
         ensures keeps { OnOk result (KeepsOthers self.old self.new (ItemKind.Component id)) }
     {
@@ -219,7 +238,7 @@ impl Types {
             let_go(world);
             return Err(CycleError::Cycle);
         }
-        put(&mut self.worlds, id.index, world);
+        self.worlds.put(id.index, world)?;
         Ok(())
     }
 
@@ -231,10 +250,12 @@ impl Types {
     ) -> Result<(), CycleError>
         requires stands { Stands self.old (ItemKind.Module id) }
         requires children { HasChildren self.old (module_entry ty) }
-        ensures replaced { OnOk result (self.new ≡ with_module_type self.old id.index ty) }
+        ensures replaced { OnOk result (self.new ≡ keeping self.new.kept (with_module_type self.old id.index ty)) }
+        ensures kept { OnOk result (KeepsModuleType self.old.kept self.new.kept ty) }
         ensures refused { OnErr result (self.new ≡ self.old) }
         ensures no_cycle { OnOk result (LeadsBack self.old (ItemKind.Module id) (module_entry ty) → ⊥) }
-        ensures cycle { OnErr result (LeadsBack self.old (ItemKind.Module id) (module_entry ty)) }
+        ensures cycle { IfErr result
+            (λ e. (e ≡ CycleError.Cycle) ↔ LeadsBack self.old (ItemKind.Module id) (module_entry ty)) }
         ensures stand { KeepsStanding self.old self.new }
         ensures keeps { OnOk result (KeepsOthers self.old self.new (ItemKind.Module id)) }
     {
@@ -242,7 +263,7 @@ impl Types {
             let_go(ty);
             return Err(CycleError::Cycle);
         }
-        put(&mut self.modules, id.index, ty);
+        self.modules.put(id.index, ty)?;
         Ok(())
     }
 }

@@ -1,29 +1,29 @@
 //! A collection of types.
 
 ghost use Rattle.std.specs.Prelude.{◌≡◌, ◌∷◌, ◌++◌, [], OnOk, OnErr, IfOk, length, IsTrue, IsSome, ◌↔◌, All, slice_get, Some, ◌&&◌, ◌==◌, nat_lt, is_some};
-ghost use Rattle.std.specs.Slice.Iter.{iter_rest};
-ghost use Rattle.std.specs.Iterator.Adapters.{IterYieldsInOrder};
 ghost use Rattle.wac_types_base.specs.Record.{Collection};
+ghost use Rattle.wac_types_base.specs.Kept.{keeping, KeepsDefinedType, KeepsResource, KeepsFuncType, KeepsInterface, KeepsWorld, KeepsModuleType};
 ghost use Rattle.wac_types_base.specs.Collection.{Stands, IsAcyclic, empty, HasChildren, Grows, item_node, func_entry, interface_entry, world_entry, defined_entry, resource_entry};
 
 use crate::core_types::ModuleType;
 use crate::defined::{DefinedType, FuncType, Interface, Resource, World};
+use crate::entries::{Entries, EntryIter};
 use crate::ids::{DefinedTypeId, FuncTypeId, InterfaceId, ModuleTypeId, ResourceId, WorldId};
 use crate::item::{ItemKind, Type, ValueType};
 use std::alloc::{AllocError, Global};
 use std::marker::Model;
 use std::ops::Index;
-use std::slice::Iter;
 
-/// A collection of types: six lists, under a number that the caller chose. Its ids carry the number.
+/// A collection of types: six lists, under a number that the caller chose. Its ids carry the number. Equal entries are kept
+/// once, behind all ids that were given for them.
 pub struct Types {
     pub(crate) number: u64,
-    pub(crate) defined_types: Vec<DefinedType>,
-    pub(crate) resources: Vec<Resource>,
-    pub(crate) func_types: Vec<FuncType>,
-    pub(crate) interfaces: Vec<Interface>,
-    pub(crate) worlds: Vec<World>,
-    pub(crate) modules: Vec<ModuleType>,
+    pub(crate) defined_types: Entries<DefinedType>,
+    pub(crate) resources: Entries<Resource>,
+    pub(crate) func_types: Entries<FuncType>,
+    pub(crate) interfaces: Entries<Interface>,
+    pub(crate) worlds: Entries<World>,
+    pub(crate) modules: Entries<ModuleType>,
 }
 
 impl Drop for Types {
@@ -59,12 +59,12 @@ impl Types {
     {
         Types {
             number,
-            defined_types: Vec::new(alloc),
-            resources: Vec::new(alloc),
-            func_types: Vec::new(alloc),
-            interfaces: Vec::new(alloc),
-            worlds: Vec::new(alloc),
-            modules: Vec::new(alloc),
+            defined_types: Entries::new(alloc),
+            resources: Entries::new(alloc),
+            func_types: Entries::new(alloc),
+            interfaces: Entries::new(alloc),
+            worlds: Entries::new(alloc),
+            modules: Entries::new(alloc),
         }
     }
 
@@ -88,13 +88,14 @@ impl Types {
     /// Adds a defined type, all of whose ids stand here.
     pub fn add_defined_type(&mut self, ty: DefinedType) -> Result<DefinedTypeId, AllocError>
         requires { HasChildren self.old (defined_entry ty) }
-        ensures added { OnOk result (self.new ≡ record self.old { defined_types = self.old.defined_types ++ ty ∷ [] }) }
+        ensures added { OnOk result
+            (self.new ≡ keeping self.new.kept (record self.old { defined_types = self.old.defined_types ++ ty ∷ [] })) }
+        ensures kept { OnOk result (KeepsDefinedType self.old.kept self.new.kept ty) }
         ensures id { IfOk result (λ i. i ≡ record { collection = self.old.number; index = length self.old.defined_types }) }
         ensures err { OnErr result (self.new ≡ self.old) }
         ensures grows { Grows self.old self.new }
     {
-        let index = self.defined_types.len();
-        self.defined_types.push(ty)?;
+        let index = self.defined_types.push(ty)?;
         Ok(DefinedTypeId {
             collection: self.number,
             index,
@@ -104,13 +105,14 @@ impl Types {
     /// Adds a resource, all of whose ids stand here.
     pub fn add_resource(&mut self, resource: Resource) -> Result<ResourceId, AllocError>
         requires { HasChildren self.old (resource_entry resource) }
-        ensures added { OnOk result (self.new ≡ record self.old { resources = self.old.resources ++ resource ∷ [] }) }
+        ensures added { OnOk result
+            (self.new ≡ keeping self.new.kept (record self.old { resources = self.old.resources ++ resource ∷ [] })) }
+        ensures kept { OnOk result (KeepsResource self.old.kept self.new.kept resource) }
         ensures id { IfOk result (λ i. i ≡ record { collection = self.old.number; index = length self.old.resources }) }
         ensures err { OnErr result (self.new ≡ self.old) }
         ensures grows { Grows self.old self.new }
     {
-        let index = self.resources.len();
-        self.resources.push(resource)?;
+        let index = self.resources.push(resource)?;
         Ok(ResourceId {
             collection: self.number,
             index,
@@ -120,13 +122,14 @@ impl Types {
     /// Adds a function type, all of whose ids stand here.
     pub fn add_func_type(&mut self, func: FuncType) -> Result<FuncTypeId, AllocError>
         requires { HasChildren self.old (func_entry func) }
-        ensures added { OnOk result (self.new ≡ record self.old { func_types = self.old.func_types ++ func ∷ [] }) }
+        ensures added { OnOk result
+            (self.new ≡ keeping self.new.kept (record self.old { func_types = self.old.func_types ++ func ∷ [] })) }
+        ensures kept { OnOk result (KeepsFuncType self.old.kept self.new.kept func) }
         ensures id { IfOk result (λ i. i ≡ record { collection = self.old.number; index = length self.old.func_types }) }
         ensures err { OnErr result (self.new ≡ self.old) }
         ensures grows { Grows self.old self.new }
     {
-        let index = self.func_types.len();
-        self.func_types.push(func)?;
+        let index = self.func_types.push(func)?;
         Ok(FuncTypeId {
             collection: self.number,
             index,
@@ -136,13 +139,14 @@ impl Types {
     /// Adds an interface, all of whose ids stand here.
     pub fn add_interface(&mut self, interface: Interface) -> Result<InterfaceId, AllocError>
         requires { HasChildren self.old (interface_entry interface) }
-        ensures added { OnOk result (self.new ≡ record self.old { interfaces = self.old.interfaces ++ interface ∷ [] }) }
+        ensures added { OnOk result
+            (self.new ≡ keeping self.new.kept (record self.old { interfaces = self.old.interfaces ++ interface ∷ [] })) }
+        ensures kept { OnOk result (KeepsInterface self.old.kept self.new.kept interface) }
         ensures id { IfOk result (λ i. i ≡ record { collection = self.old.number; index = length self.old.interfaces }) }
         ensures err { OnErr result (self.new ≡ self.old) }
         ensures grows { Grows self.old self.new }
     {
-        let index = self.interfaces.len();
-        self.interfaces.push(interface)?;
+        let index = self.interfaces.push(interface)?;
         Ok(InterfaceId {
             collection: self.number,
             index,
@@ -152,13 +156,14 @@ impl Types {
     /// Adds a world, all of whose ids stand here.
     pub fn add_world(&mut self, world: World) -> Result<WorldId, AllocError>
         requires { HasChildren self.old (world_entry world) }
-        ensures added { OnOk result (self.new ≡ record self.old { worlds = self.old.worlds ++ world ∷ [] }) }
+        ensures added { OnOk result
+            (self.new ≡ keeping self.new.kept (record self.old { worlds = self.old.worlds ++ world ∷ [] })) }
+        ensures kept { OnOk result (KeepsWorld self.old.kept self.new.kept world) }
         ensures id { IfOk result (λ i. i ≡ record { collection = self.old.number; index = length self.old.worlds }) }
         ensures err { OnErr result (self.new ≡ self.old) }
         ensures grows { Grows self.old self.new }
     {
-        let index = self.worlds.len();
-        self.worlds.push(world)?;
+        let index = self.worlds.push(world)?;
         Ok(WorldId {
             collection: self.number,
             index,
@@ -167,13 +172,14 @@ impl Types {
 
     /// Adds a module type.
     pub fn add_module_type(&mut self, ty: ModuleType) -> Result<ModuleTypeId, AllocError>
-        ensures added { OnOk result (self.new ≡ record self.old { modules = self.old.modules ++ ty ∷ [] }) }
+        ensures added { OnOk result
+            (self.new ≡ keeping self.new.kept (record self.old { modules = self.old.modules ++ ty ∷ [] })) }
+        ensures kept { OnOk result (KeepsModuleType self.old.kept self.new.kept ty) }
         ensures id { IfOk result (λ i. i ≡ record { collection = self.old.number; index = length self.old.modules }) }
         ensures err { OnErr result (self.new ≡ self.old) }
         ensures grows { Grows self.old self.new }
     {
-        let index = self.modules.len();
-        self.modules.push(ty)?;
+        let index = self.modules.push(ty)?;
         Ok(ModuleTypeId {
             collection: self.number,
             index,
@@ -255,7 +261,7 @@ impl Types {
         ensures own { id.collection ≡ self.now.number }
         ensures acyclic { IsAcyclic self.now }
     {
-        &self.defined_types[id.index]
+        self.defined_types.get(id.index)
     }
 
     /// The resource of an id that stands here.
@@ -265,7 +271,7 @@ impl Types {
         ensures own { id.collection ≡ self.now.number }
         ensures acyclic { IsAcyclic self.now }
     {
-        &self.resources[id.index]
+        self.resources.get(id.index)
     }
 
     /// The function type of an id that stands here.
@@ -275,7 +281,7 @@ impl Types {
         ensures own { id.collection ≡ self.now.number }
         ensures acyclic { IsAcyclic self.now }
     {
-        &self.func_types[id.index]
+        self.func_types.get(id.index)
     }
 
     /// The interface of an id that stands here.
@@ -285,7 +291,7 @@ impl Types {
         ensures own { id.collection ≡ self.now.number }
         ensures acyclic { IsAcyclic self.now }
     {
-        &self.interfaces[id.index]
+        self.interfaces.get(id.index)
     }
 
     /// The world of an id that stands here.
@@ -295,7 +301,7 @@ impl Types {
         ensures own { id.collection ≡ self.now.number }
         ensures acyclic { IsAcyclic self.now }
     {
-        &self.worlds[id.index]
+        self.worlds.get(id.index)
     }
 
     /// The module type of an id that stands here.
@@ -305,56 +311,50 @@ impl Types {
         ensures own { id.collection ≡ self.now.number }
         ensures acyclic { IsAcyclic self.now }
     {
-        &self.modules[id.index]
+        self.modules.get(id.index)
     }
 }
 
 // The entries, in order of adding.
 impl Types {
     /// The defined types.
-    pub fn defined_types(&self) -> Iter<'_, DefinedType>
-        ensures rest { iter_rest result ≡ self.now.defined_types }
-        ensures runs { IterYieldsInOrder DefinedType }
+    pub fn defined_types(&self) -> EntryIter<'_, DefinedType>
+        ensures { result ≡ self.now.defined_types }
     {
         self.defined_types.iter()
     }
 
     /// The resources.
-    pub fn resources(&self) -> Iter<'_, Resource>
-        ensures rest { iter_rest result ≡ self.now.resources }
-        ensures runs { IterYieldsInOrder Resource }
+    pub fn resources(&self) -> EntryIter<'_, Resource>
+        ensures { result ≡ self.now.resources }
     {
         self.resources.iter()
     }
 
     /// The function types.
-    pub fn func_types(&self) -> Iter<'_, FuncType>
-        ensures rest { iter_rest result ≡ self.now.func_types }
-        ensures runs { IterYieldsInOrder FuncType }
+    pub fn func_types(&self) -> EntryIter<'_, FuncType>
+        ensures { result ≡ self.now.func_types }
     {
         self.func_types.iter()
     }
 
     /// The interfaces.
-    pub fn interfaces(&self) -> Iter<'_, Interface>
-        ensures rest { iter_rest result ≡ self.now.interfaces }
-        ensures runs { IterYieldsInOrder Interface }
+    pub fn interfaces(&self) -> EntryIter<'_, Interface>
+        ensures { result ≡ self.now.interfaces }
     {
         self.interfaces.iter()
     }
 
     /// The worlds.
-    pub fn worlds(&self) -> Iter<'_, World>
-        ensures rest { iter_rest result ≡ self.now.worlds }
-        ensures runs { IterYieldsInOrder World }
+    pub fn worlds(&self) -> EntryIter<'_, World>
+        ensures { result ≡ self.now.worlds }
     {
         self.worlds.iter()
     }
 
     /// The module types.
-    pub fn modules(&self) -> Iter<'_, ModuleType>
-        ensures rest { iter_rest result ≡ self.now.modules }
-        ensures runs { IterYieldsInOrder ModuleType }
+    pub fn modules(&self) -> EntryIter<'_, ModuleType>
+        ensures { result ≡ self.now.modules }
     {
         self.modules.iter()
     }

@@ -1,6 +1,7 @@
 //! A collection that is lent for adding alone.
 
 ghost use Rattle.std.specs.Prelude.{◌≡◌, ◌∷◌, ◌++◌, [], OnOk, OnErr, IfOk, length};
+ghost use Rattle.wac_types_base.specs.Kept.{keeping, KeepsDefinedType, KeepsResource, KeepsFuncType, KeepsInterface, KeepsWorld, KeepsModuleType};
 ghost use Rattle.wac_types_base.specs.Collection.{HasChildren, Grows, func_entry, interface_entry, world_entry, defined_entry, resource_entry};
 
 use crate::core_types::ModuleType;
@@ -43,8 +44,9 @@ impl<'a> TypesMut<'a> {
     /// Adds a defined type, all of whose ids stand here.
     pub fn add_defined_type(&mut self, ty: DefinedType) -> Result<DefinedTypeId, AllocError>
         requires { HasChildren self.old.types.now (defined_entry ty) }
-        ensures added { OnOk result
-            (self.new.types.now ≡ record self.old.types.now { defined_types = self.old.types.now.defined_types ++ ty ∷ [] }) }
+        ensures added { OnOk result (self.new.types.now ≡ keeping self.new.types.now.kept
+            (record self.old.types.now { defined_types = self.old.types.now.defined_types ++ ty ∷ [] })) }
+        ensures kept { OnOk result (KeepsDefinedType self.old.types.now.kept self.new.types.now.kept ty) }
         ensures id { IfOk result
             (λ i. i ≡ record { collection = self.old.types.now.number; index = length self.old.types.now.defined_types }) }
         ensures err { OnErr result (self.new.types.now ≡ self.old.types.now) }
@@ -57,8 +59,9 @@ impl<'a> TypesMut<'a> {
     /// Adds a resource, all of whose ids stand here.
     pub fn add_resource(&mut self, resource: Resource) -> Result<ResourceId, AllocError>
         requires { HasChildren self.old.types.now (resource_entry resource) }
-        ensures added { OnOk result
-            (self.new.types.now ≡ record self.old.types.now { resources = self.old.types.now.resources ++ resource ∷ [] }) }
+        ensures added { OnOk result (self.new.types.now ≡ keeping self.new.types.now.kept
+            (record self.old.types.now { resources = self.old.types.now.resources ++ resource ∷ [] })) }
+        ensures kept { OnOk result (KeepsResource self.old.types.now.kept self.new.types.now.kept resource) }
         ensures id { IfOk result
             (λ i. i ≡ record { collection = self.old.types.now.number; index = length self.old.types.now.resources }) }
         ensures err { OnErr result (self.new.types.now ≡ self.old.types.now) }
@@ -71,8 +74,9 @@ impl<'a> TypesMut<'a> {
     /// Adds a function type, all of whose ids stand here.
     pub fn add_func_type(&mut self, func: FuncType) -> Result<FuncTypeId, AllocError>
         requires { HasChildren self.old.types.now (func_entry func) }
-        ensures added { OnOk result
-            (self.new.types.now ≡ record self.old.types.now { func_types = self.old.types.now.func_types ++ func ∷ [] }) }
+        ensures added { OnOk result (self.new.types.now ≡ keeping self.new.types.now.kept
+            (record self.old.types.now { func_types = self.old.types.now.func_types ++ func ∷ [] })) }
+        ensures kept { OnOk result (KeepsFuncType self.old.types.now.kept self.new.types.now.kept func) }
         ensures id { IfOk result
             (λ i. i ≡ record { collection = self.old.types.now.number; index = length self.old.types.now.func_types }) }
         ensures err { OnErr result (self.new.types.now ≡ self.old.types.now) }
@@ -85,8 +89,9 @@ impl<'a> TypesMut<'a> {
     /// Adds an interface, all of whose ids stand here.
     pub fn add_interface(&mut self, interface: Interface) -> Result<InterfaceId, AllocError>
         requires { HasChildren self.old.types.now (interface_entry interface) }
-        ensures added { OnOk result
-            (self.new.types.now ≡ record self.old.types.now { interfaces = self.old.types.now.interfaces ++ interface ∷ [] }) }
+        ensures added { OnOk result (self.new.types.now ≡ keeping self.new.types.now.kept
+            (record self.old.types.now { interfaces = self.old.types.now.interfaces ++ interface ∷ [] })) }
+        ensures kept { OnOk result (KeepsInterface self.old.types.now.kept self.new.types.now.kept interface) }
         ensures id { IfOk result
             (λ i. i ≡ record { collection = self.old.types.now.number; index = length self.old.types.now.interfaces }) }
         ensures err { OnErr result (self.new.types.now ≡ self.old.types.now) }
@@ -99,8 +104,9 @@ impl<'a> TypesMut<'a> {
     /// Adds a world, all of whose ids stand here.
     pub fn add_world(&mut self, world: World) -> Result<WorldId, AllocError>
         requires { HasChildren self.old.types.now (world_entry world) }
-        ensures added { OnOk result
-            (self.new.types.now ≡ record self.old.types.now { worlds = self.old.types.now.worlds ++ world ∷ [] }) }
+        ensures added { OnOk result (self.new.types.now ≡ keeping self.new.types.now.kept
+            (record self.old.types.now { worlds = self.old.types.now.worlds ++ world ∷ [] })) }
+        ensures kept { OnOk result (KeepsWorld self.old.types.now.kept self.new.types.now.kept world) }
         ensures id { IfOk result
             (λ i. i ≡ record { collection = self.old.types.now.number; index = length self.old.types.now.worlds }) }
         ensures err { OnErr result (self.new.types.now ≡ self.old.types.now) }
@@ -112,8 +118,9 @@ impl<'a> TypesMut<'a> {
 
     /// Adds a module type.
     pub fn add_module_type(&mut self, ty: ModuleType) -> Result<ModuleTypeId, AllocError>
-        ensures added { OnOk result
-            (self.new.types.now ≡ record self.old.types.now { modules = self.old.types.now.modules ++ ty ∷ [] }) }
+        ensures added { OnOk result (self.new.types.now ≡ keeping self.new.types.now.kept
+            (record self.old.types.now { modules = self.old.types.now.modules ++ ty ∷ [] })) }
+        ensures kept { OnOk result (KeepsModuleType self.old.types.now.kept self.new.types.now.kept ty) }
         ensures id { IfOk result
             (λ i. i ≡ record { collection = self.old.types.now.number; index = length self.old.types.now.modules }) }
         ensures err { OnErr result (self.new.types.now ≡ self.old.types.now) }

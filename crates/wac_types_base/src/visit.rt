@@ -9,7 +9,7 @@ use crate::item::{ItemKind, Type, ValueType};
 use crate::types::Types;
 
 /// The defined type that a kind names.
-fn defined_of(kind: ItemKind) -> Option<DefinedTypeId>
+pub fn defined_of(kind: ItemKind) -> Option<DefinedTypeId>
     ensures { result ≡ defined_in kind }
 {
     match kind {

@@ -7,7 +7,7 @@ use Rattle.wac_types_base.specs.Record.{Collection}
 use Rattle.wac_types_base.specs.Entries.{Name, value_at}
 use Rattle.wac_types_base.specs.Tree.{Tree, type_item}
 use Rattle.wac_types_base.specs.Fits.{Fits, type_fits}
-use Rattle.wac_types_fit.specs.declared.errors.SubtypeError.{SubtypeError}
+use Rattle.wac_types_fit.specs.declared.error.SubtypeError.{SubtypeError}
 use Rattle.wac_types_fit.specs.Frames.{Step, Disagree, in_type}
 use Rattle.wac_types_fit.specs.Errors.{IfMismatch}
 use Rattle.wac_types_base.specs.declared.item.ValueType.{ValueType}

@@ -27,7 +27,7 @@ use Rattle.wac_types_base.proofs.Standing.{interface_found}
 use Rattle.wac_types_base.proofs.Telling.{child_stands}
 use Rattle.wac_types_base.proofs.Used.{interface_uses_stand, world_uses_stand, world_imports_stand}
 use Rattle.wac_types_fit.specs.Trees.{Fit}
-use Rattle.wac_types_fit.specs.declared.errors.SubtypeError.{SubtypeError}
+use Rattle.wac_types_fit.specs.declared.error.SubtypeError.{SubtypeError}
 use Rattle.wac_types_fit.specs.Frames.{Step}
 use Rattle.wac_types_fit.specs.Errors.{Said, steps_of, words_of}
 use Rattle.wac_types_fit.specs.Words.{AreCalled, CalledUnder}

@@ -2,7 +2,7 @@
 use Rattle.std.specs.Prelude.{◌≡◌, List, ◌∷◌, map, Option, Some, None, Result, Ok, Err, string_bytes, ⊤, String, option_copied}
 use Rattle.wac_types_base.specs.declared.item.ExternKind.{ExternKind}
 use Rattle.wac_types_base.specs.Entries.{Name}
-use Rattle.wac_types_fit.specs.declared.errors.SubtypeError.{SubtypeError}
+use Rattle.wac_types_fit.specs.declared.error.SubtypeError.{SubtypeError}
 use Rattle.wac_types_fit.specs.Frames.{Step}
 
 -- the frames, with the names as their bytes

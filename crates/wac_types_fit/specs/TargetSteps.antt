@@ -8,7 +8,7 @@ use Rattle.wac_types_base.specs.Collection.{Stands}
 use Rattle.wac_types_base.specs.Entries.{Name}
 use Rattle.wac_types_base.specs.Resolving.{promoted}
 use Rattle.wac_types_fit.specs.declared.checker.SubtypeCheck.{SubtypeCheck}
-use Rattle.wac_types_fit.specs.declared.errors.SubtypeError.{SubtypeError}
+use Rattle.wac_types_fit.specs.declared.error.SubtypeError.{SubtypeError}
 use Rattle.wac_types_fit.specs.Frames.{Step, Disagree}
 use Rattle.wac_types_fit.specs.Errors.{words_of}
 use Rattle.wac_types_fit.specs.Trees.{tree_in, Fit}

@@ -12,7 +12,7 @@ ghost use Rattle.wac_types_fit.specs.Checking.{HasPair, IsTrueOf, OnlyTrue, AreI
 
 use crate::cache::{Cache, knows, remember};
 use crate::core_items::modules_fit;
-use crate::errors::{SubtypeError, mismatch, within};
+use crate::error::{SubtypeError, mismatch, within};
 use crate::values::{is_one, same_funcs, same_resources, same_values};
 use std::alloc::{AllocError, Global};
 use wac_types_base::{ExternKind, InterfaceId, ItemKind, NamedMap, Type, Types, WorldId};

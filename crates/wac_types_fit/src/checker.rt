@@ -1,6 +1,7 @@
 //! The checker that callers hold.
 
-ghost use Rattle.std.specs.Prelude.{◌≡◌, OnOk, ◌<◌, ◌+◌, ◌-◌, ◌^◌};
+ghost use Rattle.std.specs.Prelude.{◌≡◌, IfOk, OnOk, ◌<◌, ◌+◌, ◌-◌, ◌^◌};
+ghost use Rattle.std.specs.Bool.{Decides};
 ghost use Rattle.wac_types_base.specs.Collection.{Stands};
 ghost use Rattle.wac_types_fit.specs.Frames.{Disagree};
 ghost use Rattle.wac_types_fit.specs.Errors.{IfMismatch, IfSaid};
@@ -9,10 +10,10 @@ ghost use Rattle.wac_types_fit.specs.Trees.{tree_in, Fit, OneOrApart};
 ghost use Rattle.wac_types_fit.specs.Checking.{HasPair, IsTrueOf, OnlyTrue};
 ghost use Rattle.wac_types_fit.specs.Directions.{direction_of};
 
-use crate::cache::Cache;
+use crate::cache::{Cache, new_cache};
 use crate::check::{Sides, fits};
-use crate::errors::SubtypeError;
-use std::alloc::Global;
+use crate::error::SubtypeError;
+use std::alloc::{AllocError, Global};
 use wac_types_base::{ItemKind, Types};
 
 /// A direction of checking: which side's item is called the expected one.
@@ -115,5 +116,25 @@ impl<'a> SubtypeChecker<'a> {
             turned,
         };
         fits(sides, self.alloc, self.cache, a, b)
+    }
+}
+
+/// Whether one item of a collection fits another. No pair is remembered.
+pub fn is_subtype(
+    alloc: Global,
+    types: &Types,
+    a: ItemKind,
+    b: ItemKind,
+) -> Result<bool, AllocError>
+    requires given { Stands types.now a }
+    requires asked { Stands types.now b }
+    ensures { IfOk result (λ yes. Decides yes (Fit types.now a types.now b)) }
+{
+    let mut cache = new_cache(alloc);
+    let mut checker = SubtypeChecker::new(alloc, &mut cache);
+    match checker.is_subtype(a, types, b, types) {
+        Ok(()) => Ok(true),
+        Err(SubtypeError::Memory) => Err(AllocError),
+        Err(SubtypeError::Mismatch { .. }) => Ok(false),
     }
 }

@@ -12,7 +12,7 @@ ghost use Rattle.wac_types_fit.specs.Errors.{IfMismatch, steps_of, said, IfSaid,
 ghost use Rattle.wac_types_fit.specs.Words.{core_word, ImportCalled, ExportCalled, CoreCalled, AreCalled, in_turn};
 ghost use Rattle.wac_types_fit.specs.Checking.{HasAll, LacksOne, module_tree, import_at};
 
-use crate::errors::{SubtypeError, behind, mismatch, within};
+use crate::error::{SubtypeError, behind, mismatch, within};
 use crate::same_core::same_items;
 use std::alloc::{AllocError, Global};
 use wac_types_base::{CoreExtern, CoreImports, ExternKind, ModuleType, NamedMap};

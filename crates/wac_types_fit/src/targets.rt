@@ -19,7 +19,7 @@ ghost use Rattle.wac_types_fit.specs.TargetSteps.{mismatches, name_if, entry_if,
 
 use crate::cache::{Cache, new_cache};
 use crate::check::{Item, Sides, fits};
-use crate::errors::SubtypeError;
+use crate::error::SubtypeError;
 use indexmap::IndexMap;
 use std::alloc::{AllocError, Global};
 use std::error::Error;

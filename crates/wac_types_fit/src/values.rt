@@ -25,7 +25,7 @@ pub(crate) fn same_resources(a: ResourceId, at: &Types, b: ResourceId, bt: &Type
 }
 
 /// The value type in a place.
-fn value_of(place: Option<ItemKind>) -> Option<ValueType>
+pub fn value_of(place: Option<ItemKind>) -> Option<ValueType>
     ensures { result ≡ value_in place }
 {
     match place {
@@ -34,15 +34,17 @@ fn value_of(place: Option<ItemKind>) -> Option<ValueType>
     }
 }
 
-/// Whether two kinds are one id of one collection.
+/// Whether two kinds of one collection share: they are one, or name one kept entry.
 pub(crate) fn is_one(a: ItemKind, at: &Types, b: ItemKind, bt: &Types) -> bool
-    requires { OneOrApart at.now bt.now }
+    requires given { Stands at.now a }
+    requires asked { Stands bt.now b }
+    requires apart { OneOrApart at.now bt.now }
     ensures { IsTrue result → SameTree at.now a bt.now b }
 {
     if at.number() != bt.number() {
         return false;
     }
-    is_same(a, b)
+    at.items_share(a, b)
 }
 
 /// Whether two value types have one tree.

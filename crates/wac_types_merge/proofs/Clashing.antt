@@ -14,7 +14,7 @@ use Rattle.wac_types_base.specs.Fits.{HasField, at_first, at_later, Fits, instan
 use Rattle.wac_types_base.proofs.Standing.{world_found, module_found}
 use Rattle.wac_types_base.proofs.Slots.{stands_typed_world, stands_typed_module}
 use Rattle.wac_types_base.proofs.Telling.{item_kind}
-use Rattle.wac_types_fit.specs.declared.errors.SubtypeError.{SubtypeError}
+use Rattle.wac_types_fit.specs.declared.error.SubtypeError.{SubtypeError}
 use Rattle.wac_types_base.specs.declared.item.ExternKind.{ExternKind}
 use Rattle.wac_types_fit.specs.Frames.{Step, Disagree}
 use Rattle.wac_types_fit.specs.Errors.{IfMismatch}

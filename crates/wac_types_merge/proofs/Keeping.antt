@@ -10,7 +10,7 @@ use Rattle.wac_types_names.specs.Tracks.{lookup_key}
 use Rattle.wac_types_base.specs.Tree.{Tree}
 use Rattle.wac_types_base.specs.Fits.{Fits}
 use Rattle.wac_types_base.proofs.GraphLemmas.{value_of}
-use Rattle.wac_types_fit.specs.declared.errors.SubtypeError.{SubtypeError}
+use Rattle.wac_types_fit.specs.declared.error.SubtypeError.{SubtypeError}
 use Rattle.wac_types_fit.specs.Frames.{Step}
 use Rattle.wac_types_fit.specs.Errors.{steps_of}
 use Rattle.wac_types_fit.specs.Ordered.{InOrder}
@@ -19,7 +19,7 @@ use Rattle.wac_types_fit.specs.Trees.{tree_in}
 use Rattle.wac_types_fit.proofs.Meeting.{meet_narrower}
 use Rattle.wac_types_fit.proofs.Ordering.{named_in_order}
 use Rattle.wac_types_fit.proofs.TreeLaws.{Fits-refl}
-use Rattle.wac_types_merge.specs.declared.errors.AggregateError.{AggregateError}
+use Rattle.wac_types_merge.specs.declared.error.AggregateError.{AggregateError}
 use Rattle.wac_types_merge.specs.declared.family.Family.{Family}
 use Rattle.wac_types_merge.specs.declared.family.Import.{Import}
 use Rattle.wac_types_merge.specs.Families.{joint}

@@ -20,7 +20,7 @@ use Rattle.wac_types_fit.specs.Targets.{AreThose, none_left, first_is, first_is_
 use Rattle.wac_types_fit.specs.Trees.{tree_in}
 use Rattle.wac_types_fit.proofs.Meeting.{meet_one, meet_more}
 use Rattle.wac_types_fit.proofs.Ordering.{named_in_order}
-use Rattle.wac_types_merge.specs.declared.errors.AggregateError.{AggregateError}
+use Rattle.wac_types_merge.specs.declared.error.AggregateError.{AggregateError}
 use Rattle.wac_types_merge.specs.declared.family.Family.{Family}
 use Rattle.wac_types_merge.specs.declared.family.Import.{Import}
 use Rattle.wac_types_merge.specs.Families.{HasMore, IsUnplain, IsPlainItem, IsWitInterface, IsWitItem, joint}

@@ -7,6 +7,7 @@ use Rattle.wac_types_base.specs.declared.ids.InterfaceId.{InterfaceId}
 use Rattle.wac_types_base.specs.declared.defined.Interface.{Interface}
 use Rattle.wac_types_base.specs.declared.defined.UsedType.{UsedType}
 use Rattle.wac_types_base.specs.Record.{Collection}
+use Rattle.wac_types_base.specs.Kept.{keeping}
 use Rattle.wac_types_base.specs.Graph.{Among, node}
 use Rattle.std.specs.Option.{option_map}
 use Rattle.wac_types_base.specs.Entries.{Name, value_at}
@@ -30,9 +31,9 @@ use Rattle.wac_types_base.proofs.Replacing.{labelled_there}
 use Rattle.wac_types_base.proofs.Lists.{among_split}
 use Rattle.wac_types_fit.proofs.Items.{as_slot, used_among}
 
-pub added_at : (c d : Collection) (x : Interface) (i : InterfaceId) → d ≡ record c { interfaces = c.interfaces ++ x ∷ [] } → i ≡ record { collection = c.number; index = length c.interfaces } → IsAt d i x
+pub added_at : (c d : Collection) (x : Interface) (i : InterfaceId) → d ≡ keeping d.kept (record c { interfaces = c.interfaces ++ x ∷ [] }) → i ≡ record { collection = c.number; index = length c.interfaces } → IsAt d i x
 added_at c d x i e is =
-    subst (λ z. IsAt z i x) (sym e) (subst (λ k. IsAt (record c { interfaces = c.interfaces ++ x ∷ [] }) k x) (sym is) (record { at = last_place c.interfaces x; own = refl }))
+    subst (λ z. IsAt z i x) (sym e) (subst (λ k. IsAt (keeping d.kept (record c { interfaces = c.interfaces ++ x ∷ [] })) k x) (sym is) (record { at = last_place c.interfaces x; own = refl }))
 
 pub at_stands : (c : Collection) (i : InterfaceId) (x : Interface) → IsAt c i x → Stands c (ItemKind.Instance i)
 at_stands c i x h = is_there (item_node c (ItemKind.Instance i)) (interface_entry x) (interface_node c i x h.at h.own)
@@ -144,11 +145,11 @@ renamed_is c d a b g i j x y n p q u e is children = record {
 
 -- ---- what adding answers
 
-pub all_added : {E : Type 0} (r : Result InterfaceId E) (c d : Collection) (x y : Interface) → x ≡ y → OnOk r (d ≡ record c { interfaces = c.interfaces ++ x ∷ [] }) → IfOk r (λ i. i ≡ record { collection = c.number; index = length c.interfaces }) → IfOk r (λ i. IsAt d i y)
+pub all_added : {E : Type 0} (r : Result InterfaceId E) (c d : Collection) (x y : Interface) → x ≡ y → OnOk r (d ≡ keeping d.kept (record c { interfaces = c.interfaces ++ x ∷ [] })) → IfOk r (λ i. i ≡ record { collection = c.number; index = length c.interfaces }) → IfOk r (λ i. IsAt d i y)
 all_added (Ok i) c d x y e a n = subst (IsAt d i) e (added_at c d x i a n)
 all_added (Err f) c d x y e a n = tt
 
-pub all_standing : {E : Type 0} (r : Result InterfaceId E) (c d : Collection) (x : Interface) → OnOk r (d ≡ record c { interfaces = c.interfaces ++ x ∷ [] }) → IfOk r (λ i. i ≡ record { collection = c.number; index = length c.interfaces }) → IfOk r (λ i. Stands d (ItemKind.Instance i))
+pub all_standing : {E : Type 0} (r : Result InterfaceId E) (c d : Collection) (x : Interface) → OnOk r (d ≡ keeping d.kept (record c { interfaces = c.interfaces ++ x ∷ [] })) → IfOk r (λ i. i ≡ record { collection = c.number; index = length c.interfaces }) → IfOk r (λ i. Stands d (ItemKind.Instance i))
 all_standing (Ok i) c d x a n = at_stands d i x (added_at c d x i a n)
 all_standing (Err f) c d x a n = tt
 
@@ -158,7 +159,7 @@ renamed_children c a i x y at own u e =
     all_children c y (subst (UsesStand c) (sym u) (uses_stand c a i x here)) (subst (AllStand c) (sym e) (exports_stand c a i x here))
 
 pub all_renamed : {E : Type 0} (r : Result InterfaceId E) (c d : Collection) → IsAcyclic c → Grows c d → (i : InterfaceId) (x y : Interface) (n : Name) → slice_get c.interfaces i.index ≡ Some x → i.collection ≡ c.number → y.uses ≡ x.uses → y.exports ≡ x.exports → y.id ≡ Some n
-    → OnOk r (d ≡ record c { interfaces = c.interfaces ++ y ∷ [] }) → IfOk r (λ j. j ≡ record { collection = c.number; index = length c.interfaces }) → IfOk r (λ j. IsRenamed c i d j n)
+    → OnOk r (d ≡ keeping d.kept (record c { interfaces = c.interfaces ++ y ∷ [] })) → IfOk r (λ j. j ≡ record { collection = c.number; index = length c.interfaces }) → IfOk r (λ j. IsRenamed c i d j n)
 all_renamed (Ok j) c d a g i x y n at own u e is added id =
     renamed_is c d a g.acyclic g i j x y n (record { at = at; own = own }) (added_at c d y j added id) u e is (renamed_children c a i x y at own u e)
 all_renamed (Err f) c d a g i x y n at own u e is added id = tt

@@ -1,9 +1,9 @@
 -- When each refusal comes.
 use Rattle.std.specs.Prelude.{◌≡◌, List, Some, Result, Ok, Err}
-use Rattle.wac_types_fit.specs.declared.errors.SubtypeError.{SubtypeError}
+use Rattle.wac_types_fit.specs.declared.error.SubtypeError.{SubtypeError}
 use Rattle.wac_types_fit.specs.Frames.{Step}
 use Rattle.wac_types_fit.specs.Errors.{steps_of}
-use Rattle.wac_types_merge.specs.declared.errors.AggregateError.{AggregateError}
+use Rattle.wac_types_merge.specs.declared.error.AggregateError.{AggregateError}
 
 -- what holds where the answer is a mismatch
 abbrev pub IfClash : {T : Type 0} → Result T SubtypeError → Type 0 → Type 0

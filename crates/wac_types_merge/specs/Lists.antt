@@ -10,7 +10,7 @@ use Rattle.wac_types_names.specs.Tracks.{lookup_key, AreCompatible, IsLater}
 use Rattle.wac_types_fit.specs.Trees.{tree_in}
 use Rattle.wac_types_fit.specs.Meets.{IsMeet}
 use Rattle.wac_types_fit.specs.Targets.{AreThose}
-use Rattle.wac_types_merge.specs.declared.errors.AggregateError.{AggregateError}
+use Rattle.wac_types_merge.specs.declared.error.AggregateError.{AggregateError}
 use Rattle.wac_types_merge.specs.declared.family.Family.{Family}
 use Rattle.wac_types_merge.specs.declared.family.Import.{Import}
 use Rattle.wac_types_merge.specs.Families.{IsPlainItem, IsWitItem}

@@ -13,7 +13,7 @@ use Rattle.wac_types_names.specs.Tracks.{lookup_key, AreCompatible}
 use Rattle.wac_types_fit.specs.Trees.{tree_in}
 use Rattle.wac_types_fit.specs.Meets.{IsMeet, Clash}
 use Rattle.wac_types_fit.specs.Frames.{Step, Disagree}
-use Rattle.wac_types_merge.specs.declared.errors.AggregateError.{AggregateError}
+use Rattle.wac_types_merge.specs.declared.error.AggregateError.{AggregateError}
 use Rattle.wac_types_merge.specs.declared.family.Family.{Family}
 use Rattle.wac_types_merge.specs.declared.family.Import.{Import}
 use Rattle.wac_types_merge.specs.Families.{IsFamily, UsesUnnamed, joint}

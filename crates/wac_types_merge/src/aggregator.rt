@@ -9,7 +9,7 @@ ghost use Rattle.wac_types_merge.specs.Errors.{LeadsTo};
 ghost use Rattle.wac_types_merge.specs.Merging.{ask_for, IsAsked, IsRefused, LeadApart};
 ghost use Rattle.wac_types_merge.specs.Lists.{Merges, AreAsked, none_yet, asks_of, AsksStand, IsListRefused};
 
-use crate::errors::AggregateError;
+use crate::error::AggregateError;
 use crate::family::{Family, Import, family_of, uses_unnamed};
 use crate::imports::{merged_import, place_on};
 use std::alloc::{AllocError, Global};

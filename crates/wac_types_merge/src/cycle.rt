@@ -17,7 +17,7 @@ use crate::narrower::fits_in;
 use std::alloc::{AllocError, Global};
 use wac_types_base::{ExternKind, Interface, InterfaceId, ItemKind, NamedMap, Type, Types};
 use wac_types_fit::SubtypeError;
-use wac_types_fit::errors::within;
+use wac_types_fit::error::within;
 
 /// Two instances whose items are merged.
 #[derive(Clone, Copy)]

@@ -14,7 +14,7 @@ ghost use Rattle.wac_types_merge.specs.Imports.{IsPlace, IsGreater, IsSpelled, I
 ghost use Rattle.wac_types_merge.specs.Steps.{HasClash, LieOutside, IsMerged, IsSpelledImport};
 
 use crate::cycle::merge;
-use crate::errors::{AggregateError, incompatible};
+use crate::error::{AggregateError, incompatible};
 use crate::exports::rename_interface;
 use crate::family::{Family, Import, joint_family};
 use crate::narrower::narrower;

@@ -3,7 +3,7 @@
 
 pub mod aggregator;
 mod cycle;
-pub mod errors;
+pub mod error;
 mod exports;
 pub mod family;
 mod imports;
@@ -11,7 +11,7 @@ pub mod laws;
 mod narrower;
 
 pub use aggregator::{TypeAggregator, aggregate_all};
-pub use errors::AggregateError;
+pub use error::AggregateError;
 pub use family::{Family, Import, family_of, interface_uses_unnamed, joint_family};
 pub use imports::{kept_of, spelled};
 pub use laws::asks_merge_in_turn;

@@ -7,7 +7,7 @@ ghost use Rattle.wac_types_merge.specs.Errors.{IfClash, IfLeads, Refuses};
 ghost use Rattle.wac_types_merge.specs.Interfaces.{LeadsIn};
 ghost use Rattle.wac_types_merge.specs.Imports.{IsNarrower, NeitherFits};
 
-use crate::errors::AggregateError;
+use crate::error::AggregateError;
 use std::alloc::Global;
 use wac_types_base::{ItemKind, Types};
 use wac_types_fit::{SubtypeChecker, SubtypeError, new_cache};

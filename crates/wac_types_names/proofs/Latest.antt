@@ -37,12 +37,12 @@ same_key t key p e = (ap key_in e, ap version_in e)
     version_in None = p
     version_in (Some x) = x.1
 
-gt_is : (r : Ordering) → is_gt r ≡ true → r ≡ Greater
+pub gt_is : (r : Ordering) → is_gt r ≡ true → r ≡ Greater
 gt_is Less e = cc e
 gt_is Equal e = cc e
 gt_is Greater e = refl
 
-gt_not : (r : Ordering) → is_gt r ≡ false → r ≢ Greater
+pub gt_not : (r : Ordering) → is_gt r ≡ false → r ≢ Greater
 gt_not Less e g = cc g
 gt_not Equal e g = cc g
 gt_not Greater e g = cc e

@@ -47,7 +47,7 @@ pub record Spelled (n track : Name) (p : Parts) : Type 0 where
   pub key : track ≡ front ++ 64 ∷ text
   pub whole : n ≡ front ++ 64 ∷ parts_text p
 
-abbrev keyed : Name → Parts → Option (Name × Parts)
+abbrev pub keyed : Name → Parts → Option (Name × Parts)
 keyed k p = Some (k, p)
 
 spelled : (n track : Name) (p : Parts) → IsOnTrack track n p → Spelled n track p

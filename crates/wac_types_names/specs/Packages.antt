@@ -8,6 +8,7 @@ use Rattle.wac_types_base.specs.declared.defined.Interface.{Interface}
 use Rattle.wac_types_base.specs.declared.defined.World.{World}
 use Rattle.wac_types_base.specs.Entries.{Name}
 use Rattle.wac_types_base.specs.Record.{Collection}
+use Rattle.wac_types_base.specs.Kept.{keeping}
 use Rattle.wac_names.specs.ComponentNames.{IsInterfaceName}
 
 -- the type that the one export of a definition's world stands for
@@ -61,5 +62,5 @@ pub record IsInterfaceOf (c : Collection) (id : WorldId) (i : Interface) : Type 
 pub record AddsInterfaceOf (old new : Collection) (id : WorldId) (added : InterfaceId) : Type 0 where
   pub interface : Interface
   pub of : IsInterfaceOf old id interface
-  pub collection : new ≡ record old { interfaces = old.interfaces ++ interface ∷ [] }
+  pub collection : new ≡ keeping new.kept (record old { interfaces = old.interfaces ++ interface ∷ [] })
   pub number : added ≡ record { collection = old.number; index = length old.interfaces }

@@ -2,10 +2,10 @@
 
 ghost use Rattle.std.specs.Prelude.{◌≡◌, IfOk, Some};
 ghost use Rattle.std.specs.Bool.{Decides};
-ghost use Rattle.wac_names.specs.ComponentNames.{IsInterfaceName};
 ghost use Rattle.wac_names.specs.declared.names.NameKind.TheVariants as kind;
 ghost use Rattle.wac_types_base.specs.Collection.{Stands};
 ghost use Rattle.wac_types_base.specs.declared.item.«Type».{«Type» as TypeKind};
+ghost use Rattle.wac_types_names.specs.InterfaceNames.{is_interface_name};
 ghost use Rattle.wac_types_names.specs.Packages.{meaning, IsMeaning, DefinitionsOf};
 
 use std::alloc::{AllocError, Global};
@@ -19,9 +19,9 @@ fn is_interface(name: Option<NameKind>) -> bool
     matches!(name, Some(NameKind::Interface))
 }
 
-/// Whether the text is the name of an interface.
-fn is_interface_name(alloc: Global, text: &str) -> Result<bool, AllocError>
-    ensures { IfOk result (λ b. Decides b (IsInterfaceName text.now)) }
+/// Whether the text is the name of an interface: a path, with or without a version.
+pub fn is_interface_name(alloc: Global, text: &str) -> Result<bool, AllocError>
+    ensures { IfOk result (λ b. b ≡ is_interface_name text.now) }
 {
     Ok(is_interface(component_name(alloc, text)?))
 }
@@ -72,8 +72,9 @@ fn definition_of_type(
     }
 }
 
-/// What an export means, if it is a definition.
-fn definition_of(
+/// What an export of a package's world means, if it is a definition: the type of what its world exports alone, under the name of
+/// an interface.
+pub fn definition_of(
     alloc: Global,
     types: &Types,
     item: ItemKind,

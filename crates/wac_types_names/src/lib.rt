@@ -11,6 +11,7 @@ mod spelling;
 mod track;
 
 pub use adding::{Adding, copy_world};
+pub use definitions::{definition_of, is_interface_name};
 pub use laws::{
     compatible_names, examples, one_name_a_version, order_of_insertion, tracks_end_lookup_keys,
 };

@@ -27,13 +27,6 @@ pub(crate) struct Spelling {
     pub(crate) track: Option<Track>,
 }
 
-/// A text of its own.
-fn owned(alloc: Global, text: &str) -> Result<Text, AllocError>
-    ensures { IfOk result (λ t. t ≡ text.now) }
-{
-    Ok(Text::new(String::from_str(alloc, text)?))
-}
-
 /// The track of a name, if it is on one.
 fn track_of(alloc: Global, name: &str) -> Result<Option<Track>, AllocError>
     ensures { IfOk result (λ o. option_map track_view o ≡ lookup_key name.now) }
@@ -41,7 +34,7 @@ fn track_of(alloc: Global, name: &str) -> Result<Option<Track>, AllocError>
     match alternate_lookup_key(alloc, name)? {
         None => Ok(None),
         Some((key, version)) => {
-            let key = owned(alloc, key)?;
+            let key = Text::from_str(alloc, key)?;
             Ok(Some(Track { key, version }))
         }
     }
@@ -54,7 +47,7 @@ impl Spelling {
         ensures read { IfOk result IsRead }
     {
         let track = track_of(alloc, name)?;
-        let name = owned(alloc, name)?;
+        let name = Text::from_str(alloc, name)?;
         Ok(Spelling { name, track })
     }
 

@@ -3,8 +3,8 @@ use Rattle.std.proofs.Common.{◌≡◌, ℕ, List, Bool, true, sym, subst}
 use Rattle.wac_types_names.specs.Keys.{Key}
 use Rattle.wac_graph_encode.specs.declared.options.EncodeOptions.{EncodeOptions}
 use Rattle.wac_workspace.specs.declared.output.Output.{Output}
-use Rattle.wac_workspace.specs.declared.errors.ComposeError.{ComposeError}
-use Rattle.wac_workspace.specs.declared.errors.ComposeError.TheVariants as error
+use Rattle.wac_workspace.specs.declared.error.ComposeError.{ComposeError}
+use Rattle.wac_workspace.specs.declared.error.ComposeError.TheVariants as error
 use Rattle.wac_workspace.specs.Packages.{Held, HasKey}
 use Rattle.wac_workspace.specs.Composing.{CanBeComposed, IsMeantBy, IsOutput, IsRefused}
 use Rattle.wac_workspace.specs.Resolving.{Handed, handed}

@@ -26,8 +26,8 @@ use Rattle.wac_parser_encode.specs.Meaning.{HasResolvedWorld, ImportsResolved, M
 use Rattle.wac_parser_encode.specs.Refused.{CanBeEncoded, HasNoCause, TellsCause, TellsFirst}
 use Rattle.wac_workspace.specs.Composing.{greatest, ImportsSaid, AreAscribedBytes, AreImportingBytes, IsImporting, IsMeant, MeansSaid}
 use Rattle.wac_workspace.specs.declared.output.Output.{Output}
-use Rattle.wac_workspace.specs.declared.errors.ComposeError.{ComposeError}
-use Rattle.wac_workspace.specs.declared.errors.ComposeError.TheVariants as error
+use Rattle.wac_workspace.specs.declared.error.ComposeError.{ComposeError}
+use Rattle.wac_workspace.specs.declared.error.ComposeError.TheVariants as error
 use Rattle.wac_workspace.specs.Faults.{IsResolving}
 use Rattle.wac_workspace.specs.Resolving.{FailsIf, Handed, Resolves, IsAccepted, IsComposition, IsGraphOf, IsLate, IsOfResolving, IsTargetUnmet, NamesFirst}
 use Rattle.wac_workspace.specs.Steps.{FailsIn, IsAfterwards, IsUnencoded, IsUnmet, MeetsTargetOf}

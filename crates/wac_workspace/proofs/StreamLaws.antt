@@ -3,8 +3,8 @@ use Rattle.std.proofs.Common.{◌≡◌, ℕ, List, Result, Ok, Err, sym, subst}
 use Rattle.std.specs.Prelude.{OnErr, IfErr, IsErrOf}
 use Rattle.wac_graph_encode.specs.declared.options.EncodeOptions.{EncodeOptions}
 use Rattle.wac_workspace.specs.declared.output.Output.{Output}
-use Rattle.wac_workspace.specs.declared.errors.StreamError.{StreamError}
-use Rattle.wac_workspace.specs.declared.errors.StreamError.TheVariants as error
+use Rattle.wac_workspace.specs.declared.error.StreamError.{StreamError}
+use Rattle.wac_workspace.specs.declared.error.StreamError.TheVariants as error
 use Rattle.wac_workspace.specs.Packages.{Held}
 use Rattle.wac_workspace.specs.Composing.{ComposesSource}
 use Rattle.wac_streams.specs.Calls.{AppendsPrefix}

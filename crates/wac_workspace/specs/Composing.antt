@@ -19,8 +19,8 @@ use Rattle.wac_parser_resolve.specs.Ascribed.{ascribed}
 use Rattle.wac_parser_resolve.specs.Meeting.{resolved}
 use Rattle.wac_parser_encode.specs.Meaning.{ImportsAscribed, MeansAscribed}
 use Rattle.wac_workspace.specs.declared.output.Output.{Output}
-use Rattle.wac_workspace.specs.declared.errors.ComposeError.{ComposeError}
-use Rattle.wac_workspace.specs.declared.errors.ComposeError.TheVariants as error
+use Rattle.wac_workspace.specs.declared.error.ComposeError.{ComposeError}
+use Rattle.wac_workspace.specs.declared.error.ComposeError.TheVariants as error
 use Rattle.wac_workspace.specs.Packages.{Held, PackageParts, HasKey, HasHanded, AddsPackage}
 use Rattle.wac_workspace.specs.Resolving.{Handed, Resolves, handed, IsGraphOf, IsAccepted, IsComposition, IsTargetUnmet, NamesFirst}
 

@@ -4,8 +4,8 @@ use Rattle.wac_parser_grammar.specs.declared.error.Error.{Error as ParseError}
 use Rattle.wac_parser_grammar.specs.declared.error.Error.TheVariants as parse
 use Rattle.wac_parser_refusals.specs.declared.error.Error.{Error as ResolutionError}
 use Rattle.wac_parser_refusals.specs.declared.error.Error.TheVariants as resolution
-use Rattle.wac_workspace.specs.declared.errors.ComposeError.{ComposeError}
-use Rattle.wac_workspace.specs.declared.errors.ComposeError.TheVariants as error
+use Rattle.wac_workspace.specs.declared.error.ComposeError.{ComposeError}
+use Rattle.wac_workspace.specs.declared.error.ComposeError.TheVariants as error
 
 -- want of memory is one fault of a composition; any other fault of parsing is passed on
 abbrev pub IsParsing : ParseError → ComposeError → Type 0

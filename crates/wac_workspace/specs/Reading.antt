@@ -1,8 +1,8 @@
 -- What reading a source does to its reader, and why a source is not read.
 use Rattle.std.specs.Prelude.{◌≡◌, ◌<◌, ◌⊎◌, ◌++◌, ℕ, List, Option, Result, IfSome, IsErrOf, length}
 use Rattle.std.specs.Io.KnownBytes.{Consumes, IsAtEnd}
-use Rattle.wac_workspace.specs.declared.errors.StreamError.{StreamError}
-use Rattle.wac_workspace.specs.declared.errors.StreamError.TheVariants as error
+use Rattle.wac_workspace.specs.declared.error.StreamError.{StreamError}
+use Rattle.wac_workspace.specs.declared.error.StreamError.TheVariants as error
 
 -- a piece of so many bytes is taken from the reader and stands behind what was there
 abbrev pub Takes : (reader left : Option (List ℕ)) (had has : List ℕ) → ℕ → Type 0

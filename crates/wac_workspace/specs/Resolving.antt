@@ -25,8 +25,8 @@ use Rattle.wac_parser_encode.specs.Meaning.{IsWorldOf}
 use Rattle.wac_graph_encode.specs.declared.options.EncodeOptions.{EncodeOptions}
 use Rattle.wac_parser_encode.specs.Refused.{HasNoCause, TellsCause}
 use Rattle.wac_workspace.specs.declared.entries.Entry.{Entry}
-use Rattle.wac_workspace.specs.declared.errors.ComposeError.{ComposeError}
-use Rattle.wac_workspace.specs.declared.errors.ComposeError.TheVariants as error
+use Rattle.wac_workspace.specs.declared.error.ComposeError.{ComposeError}
+use Rattle.wac_workspace.specs.declared.error.ComposeError.TheVariants as error
 use Rattle.wac_workspace.specs.Packages.{key_of}
 use Rattle.wac_workspace.specs.Targets.{Meets, MeetsIf, Reports}
 

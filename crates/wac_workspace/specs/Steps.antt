@@ -16,8 +16,8 @@ use Rattle.wac_parser_encode.specs.Refused.{CanBeEncoded, RefusesResolved}
 use Rattle.wac_workspace.specs.declared.compose.Numbers.{Numbers}
 use Rattle.wac_workspace.specs.declared.compose.Pair.{Pair}
 use Rattle.wac_workspace.specs.declared.output.Output.{Output}
-use Rattle.wac_workspace.specs.declared.errors.ComposeError.{ComposeError}
-use Rattle.wac_workspace.specs.declared.errors.ComposeError.TheVariants as error
+use Rattle.wac_workspace.specs.declared.error.ComposeError.{ComposeError}
+use Rattle.wac_workspace.specs.declared.error.ComposeError.TheVariants as error
 use Rattle.wac_workspace.specs.Packages.{Held, HasKey, HasHanded}
 use Rattle.wac_workspace.specs.Composing.{greatest, output_key}
 use Rattle.wac_workspace.specs.Targets.{Meets, Reports}

@@ -4,8 +4,8 @@ use Rattle.std.specs.Io.KnownBytes.{Appends}
 use Rattle.std.specs.Str.{IsUtf8}
 use Rattle.wac_graph_encode.specs.declared.options.EncodeOptions.{EncodeOptions}
 use Rattle.wac_workspace.specs.declared.output.Output.{Output}
-use Rattle.wac_workspace.specs.declared.errors.StreamError.{StreamError}
-use Rattle.wac_workspace.specs.declared.errors.StreamError.TheVariants as error
+use Rattle.wac_workspace.specs.declared.error.StreamError.{StreamError}
+use Rattle.wac_workspace.specs.declared.error.StreamError.TheVariants as error
 use Rattle.wac_workspace.specs.Composing.{ComposesSource, IsRefused}
 use Rattle.wac_streams.specs.Calls.{AppendsPrefix}
 use Rattle.wac_workspace.specs.Packages.{Held}

@@ -1,7 +1,7 @@
 //! Adding packages to a workspace.
 
 use crate::entries::{Parts, holds_bytes, holds_handed, holds_key, make_entry, output_entry};
-use crate::errors::{AddPackageError, ComposeError};
+use crate::error::{AddPackageError, ComposeError};
 use crate::output::Output;
 use crate::workspace::Workspace;
 use semver::Version;

@@ -23,7 +23,7 @@ ghost use Rattle.wac_types_base.specs.Stated.{stated_world};
 ghost use Rattle.wac_workspace.specs.Targets.{Meets};
 
 use crate::entries::{Entry, packages_of};
-use crate::errors::ComposeError;
+use crate::error::ComposeError;
 use crate::output::Output;
 use crate::workspace::Workspace;
 use semver::Version;

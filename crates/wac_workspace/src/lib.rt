@@ -4,14 +4,14 @@
 mod adding;
 mod compose;
 mod entries;
-mod errors;
+mod error;
 mod output;
 mod read;
 mod stream;
 mod workspace;
 
 pub use entries::PackageRefs;
-pub use errors::{AddPackageError, ComposeError, StreamError};
+pub use error::{AddPackageError, ComposeError, StreamError};
 pub use output::Output;
 pub use read::{MAX_SOURCE_LENGTH, read_source};
 pub use stream::compose_stream;

@@ -5,7 +5,7 @@ ghost use Rattle.std.specs.Io.KnownBytes.{IsAtEnd};
 ghost use Rattle.wac_streams.specs.Calls.{FailedOnce, NoneFailed, CallsAtMost};
 ghost use Rattle.wac_workspace.specs.Reading.{Takes, ToEnd, HasTooMany, IsUnread};
 
-use crate::errors::StreamError;
+use crate::error::StreamError;
 use std::alloc::Global;
 use wac_streams::ByteSource;
 

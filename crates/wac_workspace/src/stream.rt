@@ -4,7 +4,7 @@ ghost use Rattle.std.specs.Io.KnownBytes.{Appends};
 ghost use Rattle.wac_streams.specs.Calls.{AppendsPrefix, CallsAtMost, FailedOnce, NoneFailed};
 ghost use Rattle.wac_workspace.specs.Streaming.{IsStreamed, IsStopped};
 
-use crate::errors::StreamError;
+use crate::error::StreamError;
 use crate::read::{MAX_SOURCE_LENGTH, read_source};
 use crate::workspace::Workspace;
 use wac_graph_encode::EncodeOptions;

@@ -1,13 +1,12 @@
 //! What stands directly in an interface, in a component type or at the root.
 
-ghost use Rattle.std.specs.Prelude.{◌≡◌, [], Some, false, ◌↔◌, IsTrue, IsSome, OnOk, IfOk};
+ghost use Rattle.std.specs.Prelude.{◌≡◌, [], Some, false, ◌↔◌, IsTrue, OnOk, IfOk};
 ghost use Rattle.std.specs.Bool.{Decides};
 ghost use Rattle.wac_types_base.specs.declared.item.ItemKind.{ItemKind};
 ghost use Rattle.wac_types_base.specs.Entries.{has_name, put_name};
 ghost use Rattle.wac_types_base.specs.Record.{Collection};
 ghost use Rattle.wac_types_base.specs.Collection.{Stands};
 ghost use Rattle.wac_types_base.specs.Stated.{stated_of, uses_of, imports_of, exports_of};
-ghost use Rattle.wac_types_fit.specs.Errors.{steps_of};
 ghost use Rattle.wac_types_fit.specs.Trees.{Fit};
 ghost use Rattle.wac_composition.specs.Writable.{is_fresh, holder};
 ghost use Rattle.wac_composition.specs.Writable.{Holder as Held};
@@ -22,7 +21,7 @@ use wac_types_base::{
     DefinedTypeId, InterfaceId, ItemKind, NamedMap, Names, ResourceId, Type, Types, ValueType,
     WorldId,
 };
-use wac_types_fit::{SubtypeChecker, SubtypeError, new_cache};
+use wac_types_fit::is_subtype;
 use wac_types_parts::maps::insert_under;
 use wac_types_parts::parts::{
     Item, Use, export_at, export_count, import_at, import_count, root_name, taken, use_at,
@@ -51,16 +50,6 @@ impl Drop for Holder {
 
 // ---- items
 
-/// What a refusal answers: no, unless memory is lacking.
-fn refused(fault: SubtypeError) -> Result<bool, AllocError>
-    ensures { IfOk result (λ yes. (yes ≡ false) × IsSome (steps_of fault)) }
-{
-    match fault {
-        SubtypeError::Memory => Err(AllocError),
-        _ => Ok(false),
-    }
-}
-
 /// Whether one item fits another. What does not stand fits nothing.
 fn fits(alloc: Global, types: &Types, a: ItemKind, b: ItemKind) -> Result<bool, AllocError>
     ensures { IfOk result (λ yes. Stands types.now a → Stands types.now b → Decides yes (Fit types.now a types.now b)) }
@@ -68,12 +57,7 @@ fn fits(alloc: Global, types: &Types, a: ItemKind, b: ItemKind) -> Result<bool, 
     if !types.has(a) || !types.has(b) {
         return Ok(false);
     }
-    let mut cache = new_cache(alloc);
-    let mut checker = SubtypeChecker::new(alloc, &mut cache);
-    match checker.is_subtype(a, types, b, types) {
-        Ok(()) => Ok(true),
-        Err(fault) => refused(fault),
-    }
+    is_subtype(alloc, types, a, b)
 }
 
 fn is_same(a: ItemKind, b: ItemKind) -> bool

@@ -46,10 +46,7 @@ pub fn type_named(items: &NamedMap<ItemKind>, words: &mut Words<'_>, name: &str)
         ItemKind::Instance(id) => Type::Interface(id),
         ItemKind::Component(id) => Type::World(id),
         ItemKind::Value(ty) => Type::Value(ty),
-        ItemKind::Module(_) => {
-            words.refuse("no type");
-            Type::Value(NOTHING)
-        }
+        ItemKind::Module(id) => Type::Module(id),
     }
 }
 

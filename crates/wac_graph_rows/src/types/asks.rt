@@ -7,7 +7,8 @@ use crate::types::turns::{tell_turned, tell_turns};
 use indexmap::IndexMap;
 use wac_rows::{Told, Words};
 use wac_types::{
-    DefinedTypeId, ItemKind, NamedMap, ResourceId, Type, Types, ValueType, World, WorldId,
+    DefinedTypeId, FuncTypeId, ItemKind, NamedMap, ResourceId, Type, Types, ValueType, World,
+    WorldId,
 };
 
 fn yes_or_no(answer: bool) -> &'static str {
@@ -109,12 +110,33 @@ fn tell_count(told: &mut Told, word: &str, count: usize) {
 fn tell_counts(types: &Types, told: &mut Told) {
     told.push("collection ");
     told.show(&types.number());
-    tell_count(told, ", types ", types.defined_types().count());
-    tell_count(told, ", resources ", types.resources().count());
-    tell_count(told, ", functions ", types.func_types().count());
-    tell_count(told, ", interfaces ", types.interfaces().count());
-    tell_count(told, ", worlds ", types.worlds().count());
-    tell_count(told, ", modules ", types.modules().count());
+    tell_count(told, ", types ", types.defined_types().len());
+    tell_count(told, ", resources ", types.resources().len());
+    tell_count(told, ", functions ", types.func_types().len());
+    tell_count(told, ", interfaces ", types.interfaces().len());
+    tell_count(told, ", worlds ", types.worlds().len());
+    tell_count(told, ", modules ", types.modules().len());
+}
+
+/// Tells whether two types share.
+fn tell_shares(types: &Types, told: &mut Told, a: Type, b: Type) {
+    if types.contains(a) && types.contains(b) {
+        return told.push(yes_or_no(types.shares(a, b)));
+    }
+    told.push("a type does not stand");
+}
+
+/// Tells the id of a function type, and the names of its parameters.
+fn tell_signature(types: &Types, told: &mut Told, id: FuncTypeId) {
+    if !types.has(ItemKind::Func(id)) {
+        return told.push("the function type does not stand");
+    }
+    told.show(&id);
+    told.push(", parameters");
+    for name in types.func_type(id).params.names() {
+        told.push(" ");
+        told.push(name.as_str());
+    }
 }
 
 /// Tells the word for an item.
@@ -125,12 +147,14 @@ fn tell_item(types: &Types, told: &mut Told, item: ItemKind) {
     told.push("the item does not stand");
 }
 
-/// Tells what is asked of an item: `implicit` and `renumbered` of a world, `source` of a resource, `item` and `copied` of any.
+/// Tells what is asked of an item: `implicit` and `renumbered` of a world, `source` of a resource, `signature` of a
+/// function, `item` and `copied` of any.
 fn tell_of_item(types: &Types, told: &mut Told, item: ItemKind, what: &str) {
     match (what, item) {
         ("implicit", ItemKind::Component(id)) => tell_implicit(types, told, id),
         ("renumbered", ItemKind::Component(id)) => tell_renumbered(types, told, id),
         ("source", ItemKind::Ty(Type::Resource(id))) => tell_root(types, told, id),
+        ("signature", ItemKind::Func(id)) => tell_signature(types, told, id),
         ("item", _) => tell_item(types, told, item),
         ("copied", _) => tell_copied(types, told, item),
         _ => told.push("nothing is known of that"),
@@ -138,9 +162,10 @@ fn tell_of_item(types: &Types, told: &mut Told, item: ItemKind, what: &str) {
 }
 
 /// Tells what a line's words ask behind this one: `word V`, `root V` and `borrow V` of a value type; `source RESOURCE`; `world
-/// INDEX`; `implicit WORLD`; `renumbered WORLD`; `visited TYPE`; `counts`; `item ITEM` (its word); `copied ITEM`; `turned A B`
-/// (what a checker that is turned once finds); `turns TURN ..` (`invert` and `revert`); `merged NAME ITEM NAME ITEM` (what is
-/// kept of asks in one list).
+/// INDEX`; `implicit WORLD`; `renumbered WORLD`; `visited TYPE`; `counts`; `kept` (how many entries are); `shares A B` of types;
+/// `signature FUNC` (its id, and the names of its parameters); `item ITEM` (its word); `copied ITEM`; `turned A B` (what a
+/// checker that is turned once finds); `turns TURN ..` (`invert` and `revert`); `merged NAME ITEM NAME ITEM` (what is kept of
+/// asks in one list).
 pub(crate) fn tell_answer(
     types: &Types,
     items: &NamedMap<ItemKind>,
@@ -156,6 +181,13 @@ pub(crate) fn tell_answer(
             tell_visited(types, told, type_named(items, words, name));
         }
         "counts" => tell_counts(types, told),
+        "kept" => told.show(&types.kept_entries()),
+        "shares" => {
+            let a = words.take();
+            let a = type_named(items, words, a);
+            let b = words.take();
+            tell_shares(types, told, a, type_named(items, words, b));
+        }
         "turned" => {
             let a = take_item(items, words);
             tell_turned(types, told, a, take_item(items, words));

@@ -71,7 +71,7 @@ fn tell_copied_world(types: &Types, told: &mut Told, id: WorldId) {
         tell_world(&other, told, copy);
     }
     told.push(", interfaces ");
-    told.show(&other.interfaces().count());
+    told.show(&other.interfaces().len());
 }
 
 /// Tells a value's word, its place and its collection.

@@ -1,3 +1,4 @@
+use Rattle.std.specs.Prelude.{IfNone}
 use Rattle.std.proofs.Common.{◌≡◌, ◌∷◌, [], ◌++◌, ◌≤◌, ◌<◌, List, ℕ, Some, slice_get, length, take, refl, sym, ap, ◌∙◌, subst, arith, inl, inr}
 use Rattle.wac_types_base.specs.declared.item.ItemKind.{ItemKind}
 use Rattle.wac_types_base.specs.Graph.{Among}
@@ -37,6 +38,7 @@ use Rattle.wac_graph_scopes.specs.ImportRefusals.{UsesUnnamed}
 use Rattle.wac_graph_scopes.proofs.StockLaws.{KeepsTypes-trans, keeps_listed, stock_on, refused_memory, item_refused, export_is_refused, one_interface}
 use Rattle.wac_graph_scopes.specs.ItemRefusals.{RefusedItem}
 use Rattle.wac_graph_scopes.proofs.RefusedLaws.{if_err_map, memory_apart, interface_unsaid, world_unsaid}
+use Rattle.wac_graph_scopes.specs.Prepared.{IsPrepared}
 use Rattle.wac_graph_scopes.proofs.ImportRefusals.{refused_then, exporting_refused}
 use Rattle.wac_graph_scopes.proofs.+types.Goals as goal
 
@@ -293,7 +295,8 @@ imports::ImportScope::describe_import-returns-in-None-clause-refused m c stands 
     let between = c.describe_plainly.new.self in
     let goes = (subst (MayDescribeIn w types outer world h.writing.inside c.args.import.name.now k between imported exported) c.in-None.is
     (c.in_ok-plainly.ensures.describes w outer h.writing.inside imported exported (written w types outer world imported exported c.args.self.now h))).goes in
-    refused_then w types outer world imported exported k between c.describe.new.self (UsesUnnamed c.args.all c.args.import) c.describe.result goes (c.describe.ensures.refused stands)
+    let prepared = subst (λ o. IfNone o (IsPrepared c.args.all between k)) c.in-None.is c.in_ok-plainly.ensures.prepared in
+    refused_then w c.args.all outer imported exported k c.args.self.now between c.describe.new.self (UsesUnnamed c.args.all c.args.import) c.in_ok-plainly.ensures.kept prepared c.describe.result goes (c.describe.ensures.refused stands)
     (λ id of. c.describe.ensures.instance stands id of w outer goes.writing.inside goes.writing.stands goes.used)
 
 pub imports::ImportScope::write_import-returns-in_err-description-in-Some-clause-refused : goal.imports::ImportScope::write_import-returns-in_err-description-in-Some-clause-refused
@@ -317,7 +320,7 @@ imports::ImportScope::export-returns-clause-refused m c stands w outer imported 
     let k = c.args.item.kind in
     let between = c.prepare.new.self in
     let goes = (c.in_ok-prepare.ensures.keeps w outer h.writing.inside imported exported (written w types outer world imported exported c.args.self.now h)).goes in
-    exporting_refused w types outer world imported exported k between (record between { scope = c.export_item.new.scope }) (LacksIdentifiers types k) c.export_item.result goes
+    exporting_refused w c.args.all outer imported exported k c.args.self.now between (record between { scope = c.export_item.new.scope }) (LacksIdentifiers types k) c.in_ok-prepare.ensures.kept c.in_ok-prepare.ensures.stands c.export_item.result goes
     (c.export_item.ensures.item stands) (λ id of. c.export_item.ensures.instance stands id of w outer goes.writing.inside goes.writing.stands goes.used)
 
 pub imports::ImportScope::write_import-returns-then-at-count-clause-writes : goal.imports::ImportScope::write_import-returns-then-at-count-clause-writes

@@ -1,4 +1,4 @@
-use Rattle.wac_graph_asks.specs.declared.faults.OuterError.{OuterError}
+use Rattle.wac_graph_asks.specs.declared.error.OuterError.{OuterError}
 use Rattle.wac_graph_asks.specs.Takes.{IsNoConflict}
 use Rattle.wac_graph_asks.proofs.Answering.{world_made}
 use Rattle.wac_graph_asks.proofs.TakingMore.{again_err}

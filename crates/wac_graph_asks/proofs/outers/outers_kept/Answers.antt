@@ -1,4 +1,4 @@
-use Rattle.wac_graph_asks.specs.declared.faults.OuterError.{OuterError}
+use Rattle.wac_graph_asks.specs.declared.error.OuterError.{OuterError}
 use Rattle.wac_graph_asks.specs.Takes.{IsNoConflict}
 use Rattle.wac_graph_asks.proofs.TakingMore.{again_err}
 use Rattle.wac_graph_asks.proofs.outers.outers_kept.Goals as goal

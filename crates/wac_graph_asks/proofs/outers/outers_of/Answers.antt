@@ -1,7 +1,7 @@
 use Rattle.std.proofs.Common.{List, refl, subst}
 use Rattle.wac_types_base.proofs.Adding.{Grows-refl}
 use Rattle.wac_graph_asks.specs.declared.asks.Ask.{Ask}
-use Rattle.wac_graph_asks.specs.declared.faults.OuterError.{OuterError}
+use Rattle.wac_graph_asks.specs.declared.error.OuterError.{OuterError}
 use Rattle.wac_graph_asks.specs.AsksIn.{asks_in}
 use Rattle.wac_graph_asks.specs.Classed.{AreLabels, AreSpellings}
 use Rattle.wac_graph_asks.specs.Takes.{IfConflict, ConflictsFor}

@@ -1,6 +1,6 @@
 use Rattle.std.proofs.Common.{◌∙◌}
 use Rattle.wac_types_base.proofs.Loops.{get-place}
-use Rattle.wac_graph_asks.specs.declared.faults.OuterError.{OuterError}
+use Rattle.wac_graph_asks.specs.declared.error.OuterError.{OuterError}
 use Rattle.wac_graph_asks.specs.Takes.{IfConflict, RefusesAt}
 use Rattle.wac_graph_asks.proofs.TakingMore.{again_err, if_conflict, refuses_at, takes_at}
 use Rattle.wac_graph_asks.proofs.taken.take.Goals as goal

@@ -1,5 +1,5 @@
 use Rattle.std.proofs.Common.{◌≡◌, arith}
-use Rattle.wac_graph_bytes.specs.declared.fault.SizeError.TheVariants.{Memory}
+use Rattle.wac_graph_bytes.specs.declared.error.SizeError.TheVariants.{Memory}
 use Rattle.wac_graph_bytes.proofs.Texts.{component_name_fits, memory_alone}
 use Rattle.wac_graph_bytes.proofs.component.push_debug_inside.Goals as goal
 

@@ -1,7 +1,7 @@
 use Rattle.std.proofs.Common.{◌≡◌, ◌++◌, ℕ, List, ap, arith, ◌∙◌}
 use Rattle.std.specs.Prelude.{string_bytes}
 use Rattle.std.proofs.lemmas.Bool.{and_from}
-use Rattle.wac_graph_bytes.specs.declared.fault.SizeError.TheVariants.{Memory}
+use Rattle.wac_graph_bytes.specs.declared.error.SizeError.TheVariants.{Memory}
 use Rattle.wac_graph_bytes.specs.Spelling.{name}
 use Rattle.wac_graph_bytes.specs.Sizes.{name_fits}
 use Rattle.wac_graph_bytes.proofs.Components.{six_pieces}

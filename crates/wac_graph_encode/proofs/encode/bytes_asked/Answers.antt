@@ -7,7 +7,7 @@ use Rattle.wac_types_base.proofs.Adding.{Grows-trans}
 use Rattle.wac_graph_asks.specs.declared.asks.Definition.{Definition}
 use Rattle.wac_graph_asks.specs.AskedUses.{CopiesStand}
 use Rattle.wac_graph_asks.proofs.TakingMore.{again_err}
-use Rattle.wac_graph_encode.specs.declared.fault.BytesError.{BytesError}
+use Rattle.wac_graph_encode.specs.declared.error.BytesError.{BytesError}
 use Rattle.wac_graph_encode.specs.Faults.{bytes_refusal}
 use Rattle.wac_graph_causes.specs.Circling.{CirclesPass, TellsCircle}
 use Rattle.wac_graph_causes.specs.Refusals.{unwritten_refusal}

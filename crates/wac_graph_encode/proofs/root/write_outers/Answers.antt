@@ -25,6 +25,6 @@ returns c is w outer =
     let half = subst (λ (l : List ℕ). IsOrder (length ns) l c.in_ok-order.order.others.items) (sym c.as_slice.ensures.value) given in
     let o : IsOrder (length ns) sources others = subst (λ (l : List ℕ). IsOrder (length ns) sources l) (sym c.as_slice-2.ensures.value) half in
     let one = [] ++ names_at ns sources in
-    let a = c.in_ok-write_in_order.ensures w outer [] [] dn (distinct-left sources others o.distinct) (λ k x n at y. y) h in
-    on_ok_weaker c.write_in_order-2.result (λ d. (one ++ names_at ns others, d, all_named ns sources others o))
-    (c.write_in_order-2.ensures w outer one [] dn (distinct-right sources others o.distinct) (others_new ns sources others o dn) a)
+    let a = c.in_ok-write_imports.ensures w outer [] [] dn (distinct-left sources others o.distinct) (λ k x n at y. y) h in
+    on_ok_weaker c.write_imports-2.result (λ d. (one ++ names_at ns others, d, all_named ns sources others o))
+    (c.write_imports-2.ensures w outer one [] dn (distinct-right sources others o.distinct) (others_new ns sources others o dn) a)

@@ -1,5 +1,4 @@
-use Rattle.std.proofs.Common.{◌≡◌, refl, ap, subst}
-use Rattle.wac_types_fit.specs.Errors.{steps_of}
+use Rattle.std.proofs.Common.{◌≡◌, refl, subst}
 use Rattle.wac_types_fit.specs.Trees.{tree_in, Fit}
 use Rattle.wac_types_fit.proofs.TreeLaws.{Fits-refl}
 use Rattle.wac_graph_scopes.proofs.value.fits_in.Goals as goal
@@ -9,6 +8,3 @@ returns-then-is_same-clause-fits c is =
     let types = c.args.types.now in
     let same : c.args.a ≡ c.args.b = c.if-is_same.ensures.0 refl in
     subst (λ k. Fit types c.args.a types k) same (Fits-refl (tree_in types c.args.a))
-
-pub returns-in-Err-Mismatch-clause-differs : goal.returns-in-Err-Mismatch-clause-differs
-returns-in-Err-Mismatch-clause-differs c is given asked fit = c.in-Err-Mismatch.ensures.no _ (ap steps_of c.in-Err-Mismatch.field-0-is) fit

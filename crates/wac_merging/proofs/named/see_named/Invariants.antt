@@ -1,6 +1,6 @@
-use Rattle.wac_merging.proofs.Looking.{AllNamed, looked_at}
+use Rattle.wac_merging.proofs.Looking.{AllNamed}
 use Rattle.wac_merging.proofs.named.see_named.Given as goal
 
--- those so far export no name twice
+-- none exports a name twice, if none of those that are left does
 abbrev pub invariant-loop-interface : goal.invariant-loop-interface
-invariant-loop-interface l = AllNamed (looked_at l.yielded)
+invariant-loop-interface l = AllNamed l.interface-iterator → AllNamed l.types.interfaces

@@ -10,9 +10,9 @@ use Rattle.wac_parser_refusals.specs.Outcomes.{IsOutcome}
 use Rattle.wac_parser_refusals.proofs.Outcomes.{after_outcome, after_refused, refused_outcome, then_refused}
 use Rattle.wac_parser_declare.specs.Holding.{Holds, scope_of}
 use Rattle.wac_parser_resolve.specs.Ascribing.{State}
-use Rattle.wac_parser_resolve.specs.InStatements.{IsNamedSo, says_import}
+use Rattle.wac_parser_resolve.specs.InStatements.{IsNamedSo}
 use Rattle.wac_parser_resolve.specs.Said.{IsSaid}
-use Rattle.wac_parser_resolve.specs.Saying.{asked, import_name, import_statement}
+use Rattle.wac_parser_resolve.specs.Saying.{add_import, asked, import_name, import_statement}
 use Rattle.wac_parser_resolve.proofs.Importing.{ident_is, import_behind}
 use Rattle.wac_parser_resolve.proofs.statements.import_statement.Goals as goal
 
@@ -34,7 +34,7 @@ returns-in_err-item-clause-outcome c s said =
     refused_outcome _ (import_statement s x) _ _ c.from_residual-in_err-item.ensures.1
     (after_refused (import_behind s x) IsNamedSo (import_name s x) c.in_ok-name.name c.in_err-item.field-0.0
     (c.in_ok-name.ensures s (ap (λ (y : Collection). scope_of y c.args.state.now.names) c.types-types.ensures ∙ said.scope))
-    (λ n is. then_refused (λ (item : Stated). says_import s x n (promote item)) (asked s x.ty) c.in_err-item.field-0.0 (c.in_err-item.ensures.outcome s said)))
+    (λ n is. then_refused (λ (item : Stated). add_import s x n (promote item)) (asked s x.ty) c.in_err-item.field-0.0 (c.in_err-item.ensures.outcome s said)))
 
 pub returns-clause-outcome : goal.returns-clause-outcome
 returns-clause-outcome c s said =
@@ -45,10 +45,10 @@ returns-clause-outcome c s said =
     let acyclic = subst (λ (y : Collection). IsAcyclic y) c.types.ensures c.see_acyclic.ensures in
     after_outcome (import_behind s x) IsNamedSo H (import_name s x) c.in_ok-name.name c.add_import.result
     (c.in_ok-name.ensures s (ap (λ (y : Collection). scope_of y c.args.state.now.names) c.types-types.ensures ∙ said.scope))
-    (λ n is. after_outcome (λ (item : Stated). says_import s x n (promote item)) (Holds d) H (asked s x.ty) c.in_ok-item.item c.add_import.result (c.in_ok-item.ensures.outcome s said)
+    (λ n is. after_outcome (λ (item : Stated). add_import s x n (promote item)) (Holds d) H (asked s x.ty) c.in_ok-item.item c.add_import.result (c.in_ok-item.ensures.outcome s said)
     (λ item holds.
     let same : ◌≡◌ {A = t.Ident} (record { string = c.as_str-text.result.now; span = c.in_ok-name.name.span }) n = ident_is n c.as_str-text.result.now c.in_ok-name.name.span (c.as_str-text.ensures.value ∙ is.0) is.1 in
-    subst (λ (m : t.Ident). IsOutcome H (says_import s x m (promote item)) c.add_import.result) same
+    subst (λ (m : t.Ident). IsOutcome H (add_import s x m (promote item)) c.add_import.result) same
     (c.add_import.ensures.outcome own (promote item)
     (record {
       stands = subst (Stands d) (sym c.promote.ensures.kind) (promoted_stands d c.in_ok-item.item c.in_ok-item.ensures.kind);

@@ -32,7 +32,7 @@ unfolding copied
 invariant_of-result c =
     let made = IsGraph-under c.args.number (graph c.self.inside) (copied c) (is_under c) c.in_ok-types.ensures.copied c.self.invariant.0 in (
       made,
-      subst (ReachBelow c.in_ok-types.types c.in_ok-nodes.nodes) (sym (c.len-defined_below.ensures.value ∙ ap length c.defined_types.ensures.rest))
+      subst (ReachBelow c.in_ok-types.types c.in_ok-nodes.nodes) (sym (c.len-defined_below.ensures ∙ ap length c.defined_types.ensures))
           (ReachBelow-all c.in_ok-types.types c.see_acyclic-2.ensures c.in_ok-nodes.nodes (items_stand (copied c) made)),
     )
 

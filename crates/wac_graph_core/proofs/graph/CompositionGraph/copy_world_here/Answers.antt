@@ -13,6 +13,6 @@ invariant_of-self c =
     let types = c.copy_world-copied.new.to.types.now in
     let grown = IsGraph-grown (graph c.self.inside) types (subst (λ t. Grows t types) c.adding.ensures.types c.copy_world-copied.ensures.grows) c.self.invariant.0 in (
       grown,
-      subst (ReachBelow types c.self.inside.nodes) (sym (c.len-self-inside.ensures.value ∙ ap length c.defined_types.ensures.rest))
+      subst (ReachBelow types c.self.inside.nodes) (sym (c.len-self-inside.ensures ∙ ap length c.defined_types.ensures))
           (ReachBelow-all types c.copy_world-copied.ensures.grows.acyclic c.self.inside.nodes (items_stand (with_collection (graph c.self.inside) types) grown)),
     )

@@ -39,7 +39,7 @@ invariant_of-self-2 c =
     let may = subst (λ g. MayDefine g c.args.name.now c.args.ty (string_bytes c.in_ok-own.own)) (sym c.self.view_is) c.in_ok-own.ensures.found in
     let made = defined_by (graph c.self.inside) k c.args.ty c.args.name.now c.in_ok-id.ensures.free c.in_ok-sources.sources.items c.in_ok-targets.targets.items used users c.depend_on.new.edges.items c.depended_by.new.edges.items first second
     c.insert.new.self c.push_reserved.new.self.items (string_bytes c.in_ok-own.own) nodes exports may (subst (λ (g : Graph). Stands g.types (ItemKind.Ty c.args.ty)) (sym c.self.view_is) c.requires) c.self.invariant.0 in
-    (made, subst (ReachBelow c.self.inside.types c.insert.new.self) (sym (c.len-self-inside.ensures.value ∙ ap length c.defined_types.ensures.rest)) (ReachBelow-all c.self.inside.types c.see_acyclic.ensures c.insert.new.self (items_stand _ made)))
+    (made, subst (ReachBelow c.self.inside.types c.insert.new.self) (sym (c.len-self-inside.ensures ∙ ap length c.defined_types.ensures)) (ReachBelow-all c.self.inside.types c.see_acyclic.ensures c.insert.new.self (items_stand _ made)))
 
 pub returns-clause-defined : goal.returns-clause-defined
 returns-clause-defined c =

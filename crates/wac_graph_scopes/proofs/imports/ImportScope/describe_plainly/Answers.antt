@@ -1,7 +1,8 @@
 use Rattle.std.proofs.Common.{subst, inl, inr}
-use Rattle.std.proofs.lemmas.Result.{err_from_is_err_and}
+use Rattle.std.proofs.lemmas.Result.{err_from_is_err_and, on_ok_weaker}
 use Rattle.wac_graph_scopes.proofs.RefusedLaws.{if_err_map}
 use Rattle.wac_graph_scopes.specs.Imports.{MayDescribeIn}
+use Rattle.wac_graph_scopes.proofs.PreparedLaws.{keeps_both}
 use Rattle.wac_graph_scopes.proofs.imports.ImportScope.describe_plainly.Goals as goal
 
 pub returns-in-Some-clause-describes : goal.returns-in-Some-clause-describes
@@ -20,3 +21,7 @@ returns-in_err-used-clause-refused c =
 
 pub returns-in-None-clause-refused : goal.returns-in-None-clause-refused
 returns-in-None-clause-refused c = if_err_map c.describe_fresh.result (λ e h un. inr (h un)) c.describe_fresh.ensures.refused
+
+pub returns-in-None-clause-kept : goal.returns-in-None-clause-kept
+returns-in-None-clause-kept c =
+    on_ok_weaker c.describe_fresh.result (λ f. keeps_both c.args.all c.args.self.now c.describe_used.new.self c.describe_fresh.new.self c.in_ok-used.ensures.kept f) c.describe_fresh.ensures.kept

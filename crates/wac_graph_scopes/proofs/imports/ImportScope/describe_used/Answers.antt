@@ -41,3 +41,16 @@ returns-in_err-found-clause-refused c =
     let g = subst (λ o. IfSome o (IsGivenBy c.args.all c.args.import)) c.in-Some.is c.in_ok-given.ensures.found in
     let p = err_from_is_err_and c.from_residual-in_err-found.result c.from_residual-in_err-found.ensures.1 in
     rw (p.1, p.2) (λ un. (c.in-Some.given, g, subst (RefusedUse c.args.all.types.now c.in-Some.given.used) un c.in_err-found.ensures.refused))
+
+-- what is taken is made an alias of, or nothing changes
+pub returns-in-Some-found-clause-kept : goal.returns-in-Some-found-clause-kept
+returns-in-Some-found-clause-kept c =
+    let g = subst (λ o. IfSome o (IsGivenBy c.args.all c.args.import)) c.in-Some.is c.in_ok-given.ensures.found in
+    let used = subst (λ o. IfSome o (λ (t : TakenUse). IsUsedKind t.item)) c.in-Some.is c.in_ok-given.ensures.kind in
+    c.in_ok-found.ensures.keeps g.taken_stands used
+
+pub returns-in-None-clause-kept : goal.returns-in-None-clause-kept
+returns-in-None-clause-kept c =
+    let g = subst (λ o. IfSome o (IsGivenBy c.args.all c.args.import)) c.in-Some.is c.in_ok-given.ensures.found in
+    let used = subst (λ o. IfSome o (λ (t : TakenUse). IsUsedKind t.item)) c.in-Some.is c.in_ok-given.ensures.kind in
+    c.in_ok-found.ensures.keeps g.taken_stands used

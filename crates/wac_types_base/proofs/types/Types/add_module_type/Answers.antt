@@ -1,11 +1,8 @@
-use Rattle.wac_types_base.proofs.Adding.{IsAcyclic-add_module_type, Grows-add_module_type, Grows-refl}
+use Rattle.wac_types_base.proofs.Adding.{IsAcyclic-add_module_type, Grows-add_module_type}
 use Rattle.wac_types_base.proofs.types.Types.add_module_type.Goals as goal
 
 pub invariant_of-self-2 : goal.invariant_of-self-2
-invariant_of-self-2 c = rw c.in_ok-push.ensures.items (IsAcyclic-add_module_type _ _ c.self.invariant)
+invariant_of-self-2 c = rw c.in_ok-index.ensures.given (IsAcyclic-add_module_type _ _ _ c.self.invariant)
 
 pub returns-clause-grows : goal.returns-clause-grows
-returns-clause-grows c = rw (c.in_ok-push.ensures.items, ← c.self.view_is) (Grows-add_module_type _ _ c.self.invariant)
-
-pub returns-in_err-push-clause-grows : goal.returns-in_err-push-clause-grows
-returns-in_err-push-clause-grows c = rw (c.in_err-push.ensures.items, ← c.self.view_is) (Grows-refl _ c.self.invariant)
+returns-clause-grows c = rw (c.in_ok-index.ensures.given, ← c.self.view_is) (Grows-add_module_type _ _ _ c.self.invariant)

@@ -1,17 +1,9 @@
-use Rattle.std.proofs.Common.{ap, arith, ◌∙◌, length, get_or}
-use Rattle.wac_types_base.proofs.Standing.{defined_found, read}
+use Rattle.std.proofs.Common.{◌<◌, length, sym, subst}
+use Rattle.wac_types_base.proofs.Standing.{defined_found}
 use Rattle.wac_types_base.proofs.types.Types.defined_type.Goals as goal
 
-pub index-requires : goal.index-requires
-index-requires c =
-    let f = defined_found c.args.self.now c.args.id c.requires in
-    let same = ap (λ v. length v.defined_types) c.self.view_is in
-    grind (arith, f.within, same)
-
-pub returns-clause-entry : goal.returns-clause-entry
-returns-clause-entry c =
-    let f = defined_found c.args.self.now c.args.id c.requires in
-    read f c.index.result.now (c.index.ensures ∙ ap (λ v. get_or v.defined_types c.args.id.index c.index.result.now) c.self.view_is)
+pub get-requires : goal.get-requires
+get-requires c = subst (λ v. c.args.id.index < length v.defined_types) (sym c.self.view_is) (defined_found c.args.self.now c.args.id c.requires).within
 
 pub returns-clause-own : goal.returns-clause-own
 returns-clause-own c = (defined_found c.args.self.now c.args.id c.requires).own

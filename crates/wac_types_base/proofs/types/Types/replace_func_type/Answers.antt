@@ -1,4 +1,4 @@
-use Rattle.std.proofs.Common.{length, sym, subst, ap, arith}
+use Rattle.std.proofs.Common.{◌<◌, length, sym, subst}
 use Rattle.wac_types_base.specs.declared.item.ItemKind.{ItemKind}
 use Rattle.wac_types_base.specs.Collection.{HasChildren, Stands, func_entry}
 use Rattle.wac_types_base.specs.Reaching.{LeadsBack}
@@ -7,17 +7,14 @@ use Rattle.wac_types_base.proofs.Replacing.{func_acyclic, func_keeps, func_stand
 use Rattle.wac_types_base.proofs.types.Types.replace_func_type.Goals as goal
 
 pub put-requires : goal.put-requires
-put-requires c =
-    let f = func_found c.args.self.now c.args.id c.requires.stands in
-    let same = ap (λ v. length v.func_types) c.self.view_is in
-    grind (arith, f.within, same)
+put-requires c = subst (λ v. c.args.id.index < length v.func_types) (sym c.self.view_is) (func_found c.args.self.now c.args.id c.requires.stands).within
 
-pub invariant_of-self : goal.invariant_of-self
-invariant_of-self c =
+pub invariant_of-self-2 : goal.invariant_of-self-2
+invariant_of-self-2 c =
     let stood = subst (λ v. Stands v (ItemKind.Func c.args.id)) (sym c.self.view_is) c.requires.stands in
     let f = func_found _ c.args.id stood in
-    rw c.put.ensures
-    (func_acyclic _ c.args.id f.own f.within c.args.func stood c.self.invariant
+    rw c.in_ok-put.ensures.given
+    (func_acyclic _ _ c.args.id f.own f.within c.args.func stood c.self.invariant
     (subst (λ v. HasChildren v (func_entry c.args.func)) (sym c.self.view_is) c.requires.children)
     (λ l. absurd (cc (c.if-leads_back.ensures.1 (subst (λ v. LeadsBack v (ItemKind.Func c.args.id) (func_entry c.args.func)) c.self.view_is l)))))
 
@@ -25,16 +22,16 @@ pub returns-clause-keeps : goal.returns-clause-keeps
 returns-clause-keeps c =
     let stood = subst (λ v. Stands v (ItemKind.Func c.args.id)) (sym c.self.view_is) c.requires.stands in
     let f = func_found _ c.args.id stood in
-    let k = func_keeps _ c.args.id f.own f.within c.args.func stood c.self.invariant
+    rw (c.in_ok-put.ensures.given, ← c.self.view_is)
+    (func_keeps _ _ c.args.id f.own f.within c.args.func stood c.self.invariant
     (subst (λ v. HasChildren v (func_entry c.args.func)) (sym c.self.view_is) c.requires.children)
-    (λ l. absurd (cc (c.if-leads_back.ensures.1 (subst (λ v. LeadsBack v (ItemKind.Func c.args.id) (func_entry c.args.func)) c.self.view_is l)))) in
-    rw (← c.self.view_is) (rw c.put.ensures k)
+    (λ l. absurd (cc (c.if-leads_back.ensures.1 (subst (λ v. LeadsBack v (ItemKind.Func c.args.id) (func_entry c.args.func)) c.self.view_is l)))))
 
 pub returns-clause-stand : goal.returns-clause-stand
 returns-clause-stand c =
     let stood = subst (λ v. Stands v (ItemKind.Func c.args.id)) (sym c.self.view_is) c.requires.stands in
     let f = func_found _ c.args.id stood in
-    let k = func_stand _ c.args.id f.own f.within c.args.func stood c.self.invariant
+    rw (c.in_ok-put.ensures.given, ← c.self.view_is)
+    (func_stand _ _ c.args.id f.own f.within c.args.func stood c.self.invariant
     (subst (λ v. HasChildren v (func_entry c.args.func)) (sym c.self.view_is) c.requires.children)
-    (λ l. absurd (cc (c.if-leads_back.ensures.1 (subst (λ v. LeadsBack v (ItemKind.Func c.args.id) (func_entry c.args.func)) c.self.view_is l)))) in
-    rw (← c.self.view_is) (rw c.put.ensures k)
+    (λ l. absurd (cc (c.if-leads_back.ensures.1 (subst (λ v. LeadsBack v (ItemKind.Func c.args.id) (func_entry c.args.func)) c.self.view_is l)))))

@@ -1,17 +1,9 @@
-use Rattle.std.proofs.Common.{ap, arith, ◌∙◌, length, get_or}
-use Rattle.wac_types_base.proofs.Standing.{resource_found, read}
+use Rattle.std.proofs.Common.{◌<◌, length, sym, subst}
+use Rattle.wac_types_base.proofs.Standing.{resource_found}
 use Rattle.wac_types_base.proofs.types.Types.resource.Goals as goal
 
-pub index-requires : goal.index-requires
-index-requires c =
-    let f = resource_found c.args.self.now c.args.id c.requires in
-    let same = ap (λ v. length v.resources) c.self.view_is in
-    grind (arith, f.within, same)
-
-pub returns-clause-entry : goal.returns-clause-entry
-returns-clause-entry c =
-    let f = resource_found c.args.self.now c.args.id c.requires in
-    read f c.index.result.now (c.index.ensures ∙ ap (λ v. get_or v.resources c.args.id.index c.index.result.now) c.self.view_is)
+pub get-requires : goal.get-requires
+get-requires c = subst (λ v. c.args.id.index < length v.resources) (sym c.self.view_is) (resource_found c.args.self.now c.args.id c.requires).within
 
 pub returns-clause-own : goal.returns-clause-own
 returns-clause-own c = (resource_found c.args.self.now c.args.id c.requires).own

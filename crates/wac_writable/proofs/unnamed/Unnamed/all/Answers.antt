@@ -12,4 +12,4 @@ loop-index-preserved c =
     )
 
 pub returns : goal.returns
-returns c = knows_all c.args.types.now c.loop-index.index c.loop-index.unnamed c.loop-index.invariant.0 c.loop-index.invariant.1 (let v = c.len-index-end.ensures.value in let e = ap (λ l. length l) c.interfaces.ensures.rest in omega (arith, v, e, c.loop-index-test.false, c.loop-index.auto.index-end))
+returns c = knows_all c.args.types.now c.loop-index.index c.loop-index.unnamed c.loop-index.invariant.0 c.loop-index.invariant.1 (let v = c.len-index-end.ensures in let e = ap (λ l. length l) c.interfaces.ensures in omega (arith, v, e, c.loop-index-test.false, c.loop-index.auto.index-end))
