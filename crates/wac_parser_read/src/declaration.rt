@@ -16,40 +16,12 @@ use wac_parser_grammar::{DeclaredType, Error, MemberKind, ParseResult};
 use wac_parser_lexer::{Lexer, Token};
 use wac_parser_terms::{
     FUNC_FIRST, ITEM_TYPE_DECL_FIRST, Peek, TYPE_DECL_FIRST, TYPE_FIRST, doc_comments, ended,
-    ident, none_of, optional, parse_token, sees, sees_any,
+    ident, neither_of, none_of, optional, parse_token, sees, sees_any,
 };
 use wac_parser_tree::{
     EnumCase, EnumDecl, Field, Flag, FlagsDecl, FuncType, ItemTypeDecl, NamedType, RecordDecl,
     ResourceDecl, Type, TypeAlias, TypeAliasKind, TypeDecl, VariantCase, VariantDecl,
 };
-
-/// The tokens with which what an alias names begins.
-const ALIAS_FIRST: [Token; 24] = [
-    Token::AsyncKeyword,
-    Token::FuncKeyword,
-    Token::U8Keyword,
-    Token::S8Keyword,
-    Token::U16Keyword,
-    Token::S16Keyword,
-    Token::U32Keyword,
-    Token::S32Keyword,
-    Token::U64Keyword,
-    Token::S64Keyword,
-    Token::F32Keyword,
-    Token::F64Keyword,
-    Token::CharKeyword,
-    Token::BoolKeyword,
-    Token::StringKeyword,
-    Token::TupleKeyword,
-    Token::ListKeyword,
-    Token::OptionKeyword,
-    Token::ResultKeyword,
-    Token::BorrowKeyword,
-    Token::StreamKeyword,
-    Token::FutureKeyword,
-    Token::ErrorContextKeyword,
-    Token::Ident,
-];
 
 /// The members of a declaration in braces, at least one. Each begins with its name.
 #[tactic(auto, using(wac_parser_terms::proofs::Places::places))]
@@ -258,7 +230,7 @@ impl<'a> Parse<'a> for TypeAliasKind<'a> {
         if sees_any(lexer, &TYPE_FIRST) {
             return Ok(TypeAliasKind::Ty(Type::parse(alloc, lexer)?));
         }
-        Err(none_of(lexer, &ALIAS_FIRST))
+        Err(neither_of(lexer, &FUNC_FIRST, &TYPE_FIRST))
     }
 }
 

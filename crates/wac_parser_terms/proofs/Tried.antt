@@ -68,6 +68,10 @@ said_of_state ks s = refused_same (first_item s) (shown_span s) (by_attempts (co
 pub said_of_tried : (ks : List Token) (s : Input) → said (tried_all ks (fresh s)) ≡ none_of ks s
 said_of_tried ks s = ap said (all_tried [] ks s) ∙ said_of_state ks s
 
+pub tried_both : (ks ls : List Token) (a : Ahead) → tried_all ls (tried_all ks a) ≡ tried_all (ks ++ ls) a
+tried_both [] ls a = refl
+tried_both (k ∷ ks) ls a = tried_both ks ls (tried k a)
+
 count_grows : (ks : List Token) (a : Ahead) → 0 < a.count → 0 < (tried_all ks a).count
 count_grows [] a h = h
 count_grows (k ∷ ks) a h = count_grows ks (tried k a) (omega arith)

@@ -2,7 +2,7 @@
 
 ghost use Rattle.wac_parser_grammar.specs.declared.error.Error.TheVariants.{Memory};
 ghost use Rattle.wac_parser_grammar.specs.Places.{IsBehind};
-ghost use Rattle.std.specs.Prelude.{◌≡◌, ◌≢◌, ◌∷◌, ◌<◌, ◌≤◌, false, true, length, IfErr, IfOk, OnErr, OnOk, Some};
+ghost use Rattle.std.specs.Prelude.{◌≡◌, ◌≢◌, ◌∷◌, ◌++◌, ◌<◌, ◌≤◌, false, true, length, IfErr, IfOk, OnErr, OnOk, Some};
 ghost use Rattle.wac_parser_grammar.specs.Faults.{fault_of};
 ghost use Rattle.wac_parser_lexer.specs.Pieces.{IsSpanIn};
 ghost use Rattle.wac_parser_grammar.specs.Ahead as ahead;
@@ -117,6 +117,17 @@ pub fn none_of(lexer: &Lexer<'_>, tokens: &[Token]) -> Error
 {
     let mut lookahead = Lookahead::new(lexer);
     lookahead.add_all(tokens);
+    lookahead.error()
+}
+
+/// The fault where one of these tokens, or one of the others after them, is expected.
+pub fn neither_of(lexer: &Lexer<'_>, tokens: &[Token], others: &[Token]) -> Error
+    requires { 0 < length tokens.now }
+    ensures { fault_of result ≡ ahead.none_of (tokens.now ++ others.now) lexer.now }
+{
+    let mut lookahead = Lookahead::new(lexer);
+    lookahead.add_all(tokens);
+    lookahead.add_all(others);
     lookahead.error()
 }
 

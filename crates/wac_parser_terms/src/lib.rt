@@ -10,7 +10,7 @@ mod package;
 mod text;
 mod value_type;
 
-pub use base::{behind, ended, none_of, optional, parse_token, sees, sees_any};
+pub use base::{behind, ended, neither_of, none_of, optional, parse_token, sees, sees_any};
 pub use expr::{
     ARGUMENT_FIRST, access_expr, argument_value, expr_within, instantiation_argument,
     named_access_expr, nested_expr, new_expr, primary_expr,

@@ -15,7 +15,8 @@ ghost use Rattle.wac_parser_terms.specs.Ends.{HasEnd};
 ghost use Rattle.wac_parser_terms.specs.Parts as parts;
 
 use crate::base::{
-    behind, expect_value, next_span, none_of, optional, parse_token, sees, sees_any, too_deep,
+    behind, expect_value, neither_of, next_span, none_of, optional, parse_token, sees, sees_any,
+    too_deep,
 };
 use crate::text::ident;
 use std::alloc::Global;
@@ -28,33 +29,6 @@ pub const MAX_LEVELS: usize = 128;
 
 /// The tokens with which a type begins.
 pub const TYPE_FIRST: [Token; 22] = [
-    Token::U8Keyword,
-    Token::S8Keyword,
-    Token::U16Keyword,
-    Token::S16Keyword,
-    Token::U32Keyword,
-    Token::S32Keyword,
-    Token::U64Keyword,
-    Token::S64Keyword,
-    Token::F32Keyword,
-    Token::F64Keyword,
-    Token::CharKeyword,
-    Token::BoolKeyword,
-    Token::StringKeyword,
-    Token::TupleKeyword,
-    Token::ListKeyword,
-    Token::OptionKeyword,
-    Token::ResultKeyword,
-    Token::BorrowKeyword,
-    Token::StreamKeyword,
-    Token::FutureKeyword,
-    Token::ErrorContextKeyword,
-    Token::Ident,
-];
-
-/// `_`, and the tokens with which a type begins.
-const OMITTED_FIRST: [Token; 23] = [
-    Token::Underscore,
     Token::U8Keyword,
     Token::S8Keyword,
     Token::U16Keyword,
@@ -295,7 +269,7 @@ fn omitted_or<'a>(
         return Ok(None);
     }
     if !sees_any(lexer, &TYPE_FIRST) {
-        return Err(none_of(lexer, &OMITTED_FIRST));
+        return Err(neither_of(lexer, &[Token::Underscore], &TYPE_FIRST));
     }
     Ok(Some(boxed_ty(alloc, lexer, inside)?))
 }

@@ -1,7 +1,7 @@
 //! What is asked of a collection of types.
 
 use crate::lines::{take_item, take_value, type_named};
-use crate::types::copies::{tell_copied, tell_renumbered};
+use crate::types::copies::{tell_copied, tell_copied_twice, tell_renumbered};
 use crate::types::merges::tell_merged;
 use crate::types::turns::{tell_turned, tell_turns};
 use indexmap::IndexMap;
@@ -148,7 +148,7 @@ fn tell_item(types: &Types, told: &mut Told, item: ItemKind) {
 }
 
 /// Tells what is asked of an item: `implicit` and `renumbered` of a world, `source` of a resource, `signature` of a
-/// function, `item` and `copied` of any.
+/// function, `item`, `copied` and `copied_twice` of any.
 fn tell_of_item(types: &Types, told: &mut Told, item: ItemKind, what: &str) {
     match (what, item) {
         ("implicit", ItemKind::Component(id)) => tell_implicit(types, told, id),
@@ -157,15 +157,16 @@ fn tell_of_item(types: &Types, told: &mut Told, item: ItemKind, what: &str) {
         ("signature", ItemKind::Func(id)) => tell_signature(types, told, id),
         ("item", _) => tell_item(types, told, item),
         ("copied", _) => tell_copied(types, told, item),
+        ("copied_twice", _) => tell_copied_twice(types, told, item),
         _ => told.push("nothing is known of that"),
     }
 }
 
 /// Tells what a line's words ask behind this one: `word V`, `root V` and `borrow V` of a value type; `source RESOURCE`; `world
 /// INDEX`; `implicit WORLD`; `renumbered WORLD`; `visited TYPE`; `counts`; `kept` (how many entries are); `shares A B` of types;
-/// `signature FUNC` (its id, and the names of its parameters); `item ITEM` (its word); `copied ITEM`; `turned A B` (what a
-/// checker that is turned once finds); `turns TURN ..` (`invert` and `revert`); `merged NAME ITEM NAME ITEM` (what is kept of
-/// asks in one list).
+/// `signature FUNC` (its id, and the names of its parameters); `item ITEM` (its word); `copied ITEM`; `copied_twice ITEM` (how
+/// many entries are kept then); `turned A B` (what a checker that is turned once finds); `turns TURN ..` (`invert` and
+/// `revert`); `merged NAME ITEM NAME ITEM` (what is kept of asks in one list).
 pub(crate) fn tell_answer(
     types: &Types,
     items: &NamedMap<ItemKind>,

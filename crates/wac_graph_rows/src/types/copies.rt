@@ -108,6 +108,20 @@ pub(crate) fn tell_copied(types: &Types, told: &mut Told, item: ItemKind) {
     }
 }
 
+/// Copies an item twice into one collection, and tells how many entries are kept there.
+pub(crate) fn tell_copied_twice(types: &Types, told: &mut Told, item: ItemKind) {
+    if !types.has(item) {
+        return told.push("the item does not stand");
+    }
+    let mut other = Types::new(told.alloc(), OTHER);
+    let first = copy_item(told.alloc(), types, item, &mut other);
+    let second = copy_item(told.alloc(), types, item, &mut other);
+    if told.given(first).is_some() && told.given(second).is_some() {
+        told.push("kept ");
+        told.show(&other.kept_entries());
+    }
+}
+
 /// Tells the number of the collection copied as another, the world there, and whether its first id stands there too.
 pub(crate) fn tell_renumbered(types: &Types, told: &mut Told, id: WorldId) {
     let copied = types.copy_as(told.alloc(), OTHER);
