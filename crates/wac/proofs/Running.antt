@@ -12,7 +12,7 @@ use Rattle.wac_workspace.specs.Composing.{ComposesSource}
 use Rattle.wac_workspace.specs.declared.output.Output.{Output}
 use Rattle.wac_texts.specs.Files.{Stored}
 use Rattle.wac_streams.specs.Calls.{Calls, NoneFailed}
-use Rattle.wac.specs.Running.{Keeps, NoneFails, Outside, PlugsFound, Puts, PutsSource, PutsSources, line_of, outside}
+use Rattle.wac.specs.Running.{Keeps, NoneFails, Outside, PlugsFound, Puts, PutsSource, PutsSources, line_of, options_of, outside}
 
 pub both_ok : {T E P Q R : Type 0} (r : Result T E) → (P → Q → R) → OnOk r P → OnOk r Q → OnOk r R
 both_ok (Ok x) f p q = f p q
@@ -22,7 +22,7 @@ pub all_ok : {T E P Q R S : Type 0} (r : Result T E) → (P → Q → R → S) �
 all_ok (Ok x) f p q s = f p q s
 all_ok (Err e) f p q s = tt
 
-module _ (define : Bool) (path : Option Name) (source : List ℕ) (old new : Held) (o : Output) (composed : ComposesSource old new source define o) where
+module _ (define : Bool) (path : Option Name) (source : List ℕ) (old new : Held) (o : Output) (composed : ComposesSource old new source (options_of define) o) where
   -- what is composed without a path, and with one
   pub put_here : (files : Option Stored) (failures : Option ℕ) (had has : Option (List ℕ)) (calls called : Option Calls) → path ≡ None → Appends had has (line_of None o) → NoneFailed calls called
       → Puts define path source old new (outside files failures had calls) (outside files failures has called)

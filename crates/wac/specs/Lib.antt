@@ -7,4 +7,5 @@ pub mod Loading
 pub mod Refusing
 pub mod Running
 pub mod Telling
+pub mod Texts
 pub mod Words

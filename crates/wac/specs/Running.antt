@@ -70,7 +70,7 @@ line_of (Some path) o = head_of o ++ 10 ∷ []
 -- a text is composed; its component is kept, and its line printed
 pub record Puts (define : Bool) (path : Option Name) (source : List ℕ) (old new : Held) (before after : Outside) : Type 0 where
   pub output : Output
-  pub composed : ComposesSource old new source define output
+  pub composed : ComposesSource old new source (options_of define) output
   pub kept : Keeps path output.bytes.items before.files after.files
   pub line : Appends before.printed after.printed (line_of path output)
   pub fine : NoneFails before after

@@ -1,5 +1,5 @@
--- Where what is told of a fault stands.
-use Rattle.std.specs.Prelude.{◌≡◌, ◌≢◌, ◌⊎◌, ℕ, List, [], ◌∷◌, ◌++◌, Option, Some, None, Result, Ok, Err, codes, string_bytes}
+-- What is told of a fault, and the lines of refusals.
+use Rattle.std.specs.Prelude.{◌≡◌, ◌≢◌, ◌⊎◌, ℕ, List, ◌∷◌, ◌++◌, Option, Some, None, Result, Ok, Err, codes, string_bytes}
 use Rattle.std.specs.declared.alloc.Global.{Global}
 use Rattle.std.specs.declared.string.String.{String}
 use Rattle.std.specs.Fmt.{decimal}
@@ -8,12 +8,17 @@ use Rattle.wac_streams.specs.Calls.{AppendsPrefix, Calls, FailedOnce, NoneFailed
 use Rattle.wac_parser_lexer.specs.declared.span.SourceSpan.{SourceSpan}
 use Rattle.wac_parser_grammar.specs.declared.error.Error.{Error}
 use Rattle.wac_parser_grammar.specs.declared.error.Error.TheVariants as e
+use Rattle.wac_parser_refusals.specs.declared.error.Error.{Error as Unresolved}
 use Rattle.wac_parser_refusals.specs.declared.error.Error.TheVariants as resolving
 use Rattle.wac_parser_refusals.specs.Causes.{span_of}
 use Rattle.wac_parser_refusals.specs.Views.{cause_of}
 use Rattle.wac_workspace.specs.declared.error.ComposeError.{ComposeError}
 use Rattle.wac_workspace.specs.declared.error.ComposeError.TheVariants as composing
+use Rattle.wac_parser_tree.specs.Trees.{Document}
+use Rattle.wac_workspace.specs.Composing.{IsDocument, directive_key}
+use Rattle.wac_workspace.specs.Words.{composing_words}
 use Rattle.wac.specs.declared.stop.Stop.{Stop}
+use Rattle.wac.specs.Texts.{Says, SaysIf, Told, taken_text}
 
 -- where a fault of parsing stands
 abbrev pub place_in_source : Error → Option SourceSpan
@@ -26,27 +31,26 @@ place_in_source (e.InvalidVersion version span) = Some span
 place_in_source (e.NestedTooDeep span) = Some span
 place_in_source e.Memory = None
 
--- the fault is a cause, and no want of memory
-abbrev pub IsCause : ComposeError → Type 0
-IsCause (composing.Parse fault) = fault ≢ e.Memory
-IsCause (composing.Resolution fault) = fault ≢ resolving.Memory
-IsCause composing.Memory = ⊥
-IsCause fault = Unit {0}
+-- a fault of parsing is told where it stands, and one of resolving; want of memory is not told
+abbrev pub TellsParsing : Error → Told → Type 0
+TellsParsing fault told = (fault ≢ e.Memory) × (told.place ≡ place_in_source fault)
 
--- what is told stands there; for want of memory nothing is told
-abbrev pub TellsAt : Option SourceSpan → Stop → Type 0
-TellsAt place (Stop.Refused text span) = span ≡ place
-TellsAt place Stop.Unwritten = ⊥
-TellsAt place Stop.Memory = Unit {0}
+abbrev pub TellsResolving : Unresolved → Told → Type 0
+TellsResolving fault told = (fault ≢ resolving.Memory) × (told.place ≡ span_of (cause_of fault))
 
--- a fault of composing is told where it stands, if it has a place in a source; want of memory is not told
-abbrev pub TellsOf : ComposeError → Stop → Type 0
-TellsOf (composing.Parse fault) stop = TellsAt (place_in_source fault) stop
-TellsOf (composing.Resolution fault) stop = TellsAt (span_of (cause_of fault)) stop
-TellsOf composing.Memory stop = stop ≡ Stop.Memory
-TellsOf fault stop = TellsAt None stop
+-- so is a fault of composing, if it has a place; else its words are told
+abbrev pub TellsFault : ComposeError → Told → Type 0
+TellsFault (composing.Parse fault) told = TellsParsing fault told
+TellsFault (composing.Resolution fault) told = TellsResolving fault told
+TellsFault composing.Memory told = ⊥
+TellsFault fault told = SaysIf (composing_words fault) told
 
--- ---- texts
+-- the same of composing this text, where a key that is there is named
+abbrev pub TellsIn : (source : List ℕ) → ComposeError → Told → Type 0
+TellsIn source composing.KeyTaken told = (d : Document) → IsDocument source d → Says (taken_text (directive_key d)) told
+TellsIn source fault told = TellsFault fault told
+
+-- ---- lines
 
 -- a refusal with its place
 abbrev pub placed_text : List ℕ → SourceSpan → List ℕ

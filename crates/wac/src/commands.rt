@@ -4,19 +4,17 @@ ghost use Rattle.std.specs.Prelude.{◌≡◌, All, None, IfOk, IfErr, OnOk, OnE
 ghost use Rattle.std.specs.Io.KnownBytes.{Appends};
 ghost use Rattle.std.specs.List.{AllZip};
 ghost use Rattle.wac_streams.specs.Calls.{AppendsPrefix, FailedOnce, NoneFailed};
-ghost use Rattle.wac_manifest.specs.Views.{key_view};
 ghost use Rattle.wac_parser_grammar.specs.Documents.{document};
-ghost use Rattle.wac_workspace.specs.Getting.{Gets};
 ghost use Rattle.wac_texts.specs.Worlds.{HasWorld};
 ghost use Rattle.wac.specs.declared.stop.Stop.{Stop as Halt};
 ghost use Rattle.wac.specs.Loading.{StopsFor};
-ghost use Rattle.wac.specs.Refusing.{ComposesNot, FailsToPrint, HasNoPlug, IsNotFound, IsNotRead, PlugsNot};
+ghost use Rattle.wac.specs.Refusing.{ComposesNot, FailsToPrint, HasNoPlug, HasNone, IsNotFound, IsNotRead, PlugsNot};
 ghost use Rattle.wac.specs.Running.{ComposesManifest, FormatsTo, IsFound, IsPrintOf, PlugsFound, PlugsManifest, outside};
 
 use crate::components::add_components;
 use crate::documents::PrintDocument;
 use crate::sources::{Wanted, path_of, put_composed, put_sources};
-use crate::stop::{Stop, bad_manifest, not_parsed, plain, with_text};
+use crate::stop::{Stop, bad_manifest, not_parsed, plain, unknown_key};
 use std::alloc::Global;
 use wac_manifest::{ComposeManifest, Key, PlugManifest};
 use wac_parser_read::ParseDocument;
@@ -54,7 +52,7 @@ pub(crate) fn compose<F: Files, W: ByteSink>(
 fn find<'a>(alloc: Global, workspace: &'a Workspace, key: &Key) -> Result<PackageRef<'a>, Stop>
     ensures world { IfOk result HasWorld }
     ensures found { IfOk result (IsFound workspace.now.packages key.now) }
-    ensures refused { IfErr result (StopsFor (Gets workspace.now.packages (key_view key.now) None)) }
+    ensures refused { IfErr result (StopsFor (HasNone workspace.now.packages key.now)) }
 {
     let name = key.name.as_str();
     let version = key.version.as_ref();
@@ -62,7 +60,7 @@ fn find<'a>(alloc: Global, workspace: &'a Workspace, key: &Key) -> Result<Packag
         Some(package) => Ok(package),
         None => {
             let key = BorrowedPackageKey::from_name_and_version(name, version);
-            Err(with_text(format!(in alloc; "unknown package `{key}`")))
+            Err(unknown_key(alloc, &key))
         }
     }
 }

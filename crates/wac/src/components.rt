@@ -1,15 +1,19 @@
 //! The components of a manifest.
 
 ghost use Rattle.std.specs.Prelude.{◌≡◌, ◌≢◌, Some, None, IfOk, IfErr, OnOk, string_bytes};
-ghost use Rattle.wac_parser_refusals.specs.declared.error.Error.{Error as Unresolved};
+ghost use Rattle.wac_types_names.specs.Keys.{borrowed_key};
 ghost use Rattle.wac_texts.specs.Files.{Has};
 ghost use Rattle.wac.specs.Adding.{IsBytesOf, AddsComponent, AddsComponents, AddsDefined, AddsRead, added_key};
 ghost use Rattle.wac.specs.Loading.{HasNoFileText, IsUnread, IsNoText, IsTextOf, IsTextRefused, StopsFor};
 ghost use Rattle.wac.specs.Refusing.{GivesNone, HasNoBytesOf, IsNotAdded, IsTaken, ReadsNone, StopsAdding};
+ghost use Rattle.wac.specs.Telling.{TellsResolving};
+ghost use Rattle.wac.specs.Texts.{SaysOf, adding_text, selecting_text};
 ghost use Rattle.wac_texts.specs.declared.declared.DeclaredWorldError.{DeclaredWorldError as Lack};
 ghost use Rattle.wac_workspace.specs.declared.error.AddPackageError.{AddPackageError as Taken};
 
-use crate::stop::{Stop, cannot_read, key_taken, not_parsed, not_resolved, plain, with_text};
+use crate::stop::{
+    Stop, cannot_read, key_taken, not_declared, not_parsed, not_resolved, not_world, plain,
+};
 use std::alloc::Global;
 use wac_graph_core::CompositionGraph;
 use wac_manifest::{BytesData, Component, TextData};
@@ -38,7 +42,7 @@ pub fn read_file<F: Files>(alloc: Global, files: &F, path: &str) -> Result<Vec<u
 /// The text that the bytes of a file are.
 pub fn text_of(alloc: Global, path: &str, bytes: &[u8]) -> Result<String, Stop>
     ensures text { IfOk result (λ text. string_bytes text ≡ bytes.now) }
-    ensures refused { IfErr result (IsNoText bytes.now) }
+    ensures refused { IfErr result (IsNoText path.now bytes.now) }
 {
     match std::str::from_utf8(bytes) {
         Ok(text) => Ok(String::from_str(alloc, text)?),
@@ -79,20 +83,18 @@ pub fn load_text<F: Files>(alloc: Global, files: &F, data: TextData) -> Result<S
 
 /// What is told of a world that a document does not declare.
 fn not_selected(alloc: Global, name: &str, fault: DeclaredWorldError) -> Stop
-    ensures { StopsFor (fault ≢ Lack.Memory) result }
+    ensures { StopsFor (SaysOf (fault ≢ Lack.Memory) (selecting_text name.now fault)) result }
 {
     match fault {
         DeclaredWorldError::Memory => Stop::Memory,
-        DeclaredWorldError::NotDeclared => {
-            with_text(format!(in alloc; "world `{name}` is not declared"))
-        }
-        DeclaredWorldError::NotWorld => with_text(format!(in alloc; "`{name}` is not a world")),
+        DeclaredWorldError::NotDeclared => not_declared(alloc, name),
+        DeclaredWorldError::NotWorld => not_world(alloc, name),
     }
 }
 
 /// What is told of a component that is not added.
 fn not_added(alloc: Global, key: BorrowedPackageKey<'_>, fault: AddPackageError) -> Stop
-    ensures { StopsFor (fault ≢ Taken.Memory) result }
+    ensures { StopsFor (SaysOf (fault ≢ Taken.Memory) (adding_text (borrowed_key key.entry) fault)) result }
 {
     match fault {
         AddPackageError::Memory => Stop::Memory,
@@ -145,7 +147,7 @@ fn add_with_graph(
 
 /// Why a document was not resolved. It is dropped by a call, so that no proof takes its type apart.
 fn unresolved(alloc: Global, fault: ResolutionError) -> Stop
-    ensures { StopsFor (fault ≢ Unresolved.Memory) result }
+    ensures { StopsFor (TellsResolving fault) result }
 {
     let stop = not_resolved(alloc, &fault);
     drop(fault);

@@ -3,8 +3,10 @@
 ghost use Rattle.std.specs.Prelude.{◌≡◌, ℕ, List, IfOk, IfErr};
 ghost use Rattle.wac.specs.declared.stop.Stop.{Stop};
 ghost use Rattle.wac_parser_tree.specs.Views.{view_document};
+ghost use Rattle.wac_types_names.specs.Keys.{Key};
 ghost use Rattle.wac.specs.Loading.{StopsFor};
 ghost use Rattle.wac.specs.Running.{printed_over};
+ghost use Rattle.wac.specs.Texts.{Says, taken_text};
 
 use crate::stop::{Stop, key_taken};
 use std::alloc::Global;
@@ -17,12 +19,20 @@ use wac_types_names::BorrowedPackageKey;
 
 /// Documents whose directive names a package.
 pub(crate) trait NameDocument: Sized {
+    // the key of the directive's package
+    ghost key: { Self → Key };
+
     /// What is told where a package with the directive's key is there already.
     fn key_taken(&self, alloc: Global) -> Stop
-        ensures { StopsFor (Unit {0}) result };
+        ensures { StopsFor (Says (taken_text (key self.now))) result };
 }
 
 impl<'s> NameDocument for Document<'s> {
+    ghost use Rattle.wac_parser_tree.specs.Views.{view_document};
+    ghost use Rattle.wac_workspace.specs.Composing.{directive_key};
+
+    ghost key = { λ d. directive_key (view_document d) };
+
     fn key_taken(&self, alloc: Global) -> Stop {
         let package = &self.directive.package;
         let key = BorrowedPackageKey::from_name_and_version(package.name, package.version.as_ref());

@@ -6,12 +6,13 @@ ghost use Rattle.std.specs.Io.KnownBytes.{Appends};
 ghost use Rattle.wac_streams.specs.Calls.{AppendsPrefix, CallsAtMost, FailedOnce};
 ghost use Rattle.wac_types_base.specs.Entries.{Name};
 ghost use Rattle.wac_workspace.specs.declared.error.StreamError.{StreamError as Unread};
-ghost use Rattle.wac_workspace.specs.Reading.{HasTooMany, ToEnd};
+ghost use Rattle.wac_workspace.specs.Reading.{ToEnd};
 ghost use Rattle.wac.specs.Loading.{StopsFor};
-ghost use Rattle.wac.specs.Refusing.{HasNoInputText, HasNoTextAt, IsRefusedRun, StopsAt};
+ghost use Rattle.wac.specs.Refusing.{HasNoInput, HasNoInputText, HasNoTextAt, IsRefusedRun, StopsAt};
 ghost use Rattle.wac.specs.declared.program.Command.{Command};
 ghost use Rattle.wac.specs.Running.{DoesAt, IsInputText, IsTextAt, Runs, outside};
 ghost use Rattle.wac.specs.Telling.{Tells, TellsLine, errors, placed_text, refused_text};
+ghost use Rattle.wac.specs.Texts.{SaysOf, unread_text};
 ghost use Rattle.wac.specs.Words.{IsCommand, Asks, usage, word_of};
 
 use crate::commands::{compose, format, plug};
@@ -77,7 +78,7 @@ fn asked<'a>(words: &[&'a str]) -> Option<(Command, &'a str)>
 
 /// Why the input was not read.
 fn unread(alloc: Global, fault: StreamError) -> Stop
-    ensures { StopsFor (fault ≢ Unread.Memory) result }
+    ensures { StopsFor (SaysOf (fault ≢ Unread.Memory) (unread_text (codes "-"))) result }
 {
     let stop = match &fault {
         StreamError::Memory => Stop::Memory,
@@ -93,7 +94,7 @@ fn read_input<R: ByteSource>(alloc: Global, input: &mut R) -> Result<Vec<u8>, St
     ensures bound { IfOk result (λ bytes. length bytes.items ≤ MAX_SOURCE_LENGTH) }
     ensures few_calls { CallsAtMost (R.calls input.old) (R.calls input.new) (MAX_SOURCE_LENGTH + 1) }
     ensures refused { IfErr result
-        (StopsFor (FailedOnce (R.calls input.old) (R.calls input.new) ⊎ HasTooMany (R.remaining input.old))) }
+        (StopsFor (HasNoInput (R.remaining input.old) (R.calls input.old) (R.calls input.new))) }
 {
     match read_source(alloc, input) {
         Ok(bytes) => Ok(bytes),

@@ -5,10 +5,11 @@ ghost use Rattle.std.specs.Io.KnownBytes.{Appends};
 ghost use Rattle.wac_streams.specs.Calls.{AppendsPrefix, FailedOnce, NoneFailed};
 ghost use Rattle.wac.specs.declared.stop.Stop.{Stop as Halt};
 ghost use Rattle.wac.specs.Loading.{StopsFor};
-ghost use Rattle.wac.specs.Refusing.{FailsToPut, FailsToWriteLine, IsUncomposed, PutsNot, StopsComposing};
+ghost use Rattle.wac.specs.Refusing.{FailsToPut, FailsToWriteLine, IsUncomposed, PutsNot, StopsComposing, TellsKey};
 ghost use Rattle.wac_workspace.specs.Composing.{ComposesSource};
-ghost use Rattle.wac.specs.Telling.{IsCause};
-ghost use Rattle.wac.specs.Running.{Keeps, PutsSources, PutsWanted, head_of, line_of, outside};
+ghost use Rattle.wac_workspace.specs.declared.error.ComposeError.{ComposeError as Fault};
+ghost use Rattle.wac.specs.Telling.{TellsIn};
+ghost use Rattle.wac.specs.Running.{Keeps, PutsSources, PutsWanted, head_of, line_of, options_of, outside};
 
 use crate::components::load_text;
 use crate::documents::NameDocument;
@@ -88,7 +89,7 @@ fn put_file<F: Files, W: ByteSink>(
 
 /// What is told of a source whose key is there already.
 fn taken_by<'s, D: ParseDocument<'s> + NameDocument>(source: &'s str, alloc: Global) -> Stop
-    ensures { StopsFor (Unit {0}) result }
+    ensures { StopsFor (TellsKey D.view D.rule D.key source.now) result }
 {
     match D::parse(alloc, source) {
         Ok(document) => document.key_taken(alloc),
@@ -96,12 +97,19 @@ fn taken_by<'s, D: ParseDocument<'s> + NameDocument>(source: &'s str, alloc: Glo
     }
 }
 
+/// The same of a document.
+fn key_taken(source: &str, alloc: Global) -> Stop
+    ensures { StopsFor (TellsIn source.now Fault.KeyTaken) result }
+{
+    taken_by::<Document<'_>>(source, alloc)
+}
+
 /// Why a text was not composed.
 fn refused(source: &str, alloc: Global, fault: ComposeError) -> Stop
-    ensures { StopsFor (IsCause fault) result }
+    ensures { StopsFor (TellsIn source.now fault) result }
 {
     let stop = match &fault {
-        ComposeError::KeyTaken => taken_by::<Document<'_>>(source, alloc),
+        ComposeError::KeyTaken => key_taken(source, alloc),
         fault => not_composed(alloc, fault),
     };
     drop(fault);
@@ -115,7 +123,7 @@ fn composed(
     workspace: &mut Workspace,
     define: bool,
 ) -> Result<Output, Stop>
-    ensures composed { IfOk result (ComposesSource workspace.old workspace.new source.now define) }
+    ensures composed { IfOk result (ComposesSource workspace.old workspace.new source.now (options_of define)) }
     ensures refused { IfErr result (StopsFor (IsUncomposed define source.now workspace.old)) }
 {
     let options = EncodeOptions {

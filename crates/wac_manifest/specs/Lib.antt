@@ -1,2 +1,3 @@
 pub mod Manifests
 pub mod Views
+pub mod Words

@@ -36,7 +36,7 @@ use Rattle.wac_parser_encode.specs.Meaning.{AreTrueOf, IsWorldOf, MeansAscribed}
 use Rattle.wac_workspace.specs.declared.entries.Entry.{Entry}
 use Rattle.wac_workspace.specs.declared.output.Output.{Output}
 use Rattle.wac_workspace.specs.Packages.{AddsPackage, HasBytes, HasHanded, Held, IsEntryMade, PackageParts}
-use Rattle.wac_workspace.specs.Composing.{AreAscribedBytes, IsDocument, IsMeantBy, IsOutput, MeansSource, output_parts}
+use Rattle.wac_workspace.specs.Composing.{AreAscribedBytes, IsDocument, IsMeantBy, IsOutput, MeansSource, RegistersIf, output_parts}
 use Rattle.wac_workspace.specs.Resolving.{handed, IsComposition}
 use Rattle.wac_nesting.proofs.Carry.{carries}
 use Rattle.wac_nesting.proofs.OneWorld.{worlds_exist}
@@ -198,12 +198,13 @@ one_call old new packages s zip (hands_in m none adds) = record {
   step = new_there old.packages packages zip m.bytes none;
   entries = more_entries old.packages new.packages packages m true _ zip adds refl refl (λ l. refl);
 }
-one_call old new packages step zip (composes source o d s target document resolves composed) =
-    let world = world_of old.packages source old.next true o d s target document resolves composed.output in
-    let kept = composed.kept in
+one_call old new packages step zip (composes source options o d s target nested document resolves composed) =
+    let world = world_of old.packages source old.next options.define_components o d s target document resolves composed.output in
+    let means = subst (λ (define : Bool). MeansSource define (handed old.packages) source o.bytes.items) nested composed.means in
+    let kept : RegistersIf true old new o = subst (λ (define : Bool). RegistersIf define old new o) nested composed.kept in
     record {
       step = composes_so old.packages packages zip d s target resolves world.met o.bytes.items (world_in o.types o.world) (λ h. kept.bytes (handed_there old.packages packages zip o.bytes.items h)) (ap maps_of world.states.states)
-          (said_of old.packages source o.bytes.items d s target document resolves composed.means);
+          (said_of old.packages source o.bytes.items d s target document resolves means);
       entries = more_entries old.packages new.packages packages (output_parts o) false _ zip kept.added refl refl (λ l. absurd l);
     }
 one_call old new packages s zip (keeps same) = record { step = tt; entries = subst (λ es. AreEntries es packages) (sym same) zip }

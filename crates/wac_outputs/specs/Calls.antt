@@ -8,6 +8,7 @@ use Rattle.wac_types_base.specs.Graph.{Among}
 use Rattle.wac_types_base.specs.Stated.{Stated, stated_of}
 use Rattle.wac_types_names.specs.Keys.{Key, same_key}
 use Rattle.wac_graph_bytes.specs.Typing.{Worlds}
+use Rattle.wac_graph_encode.specs.declared.options.EncodeOptions.{EncodeOptions}
 use Rattle.wac_nesting.specs.Given.{World}
 use Rattle.wac_nesting.specs.Steps.{Add, AreSteps, AreTrue, Ascribed, Compose, IsLeaf, Other, Package, Step, after_all}
 use Rattle.wac_nesting.specs.Laws.{IsAsAscribed}
@@ -54,8 +55,9 @@ pub data IsCall (old new : Held) : Step → Type 0 where
       → IsCall old new (Add m.bytes (world_in m.types m.world))
   -- A source is composed with its packages nested, and its output is registered, by `compose`, by `compose_stream` or in a run:
   -- the source is a document that says this over the packages.
-  composes : (source : List ℕ) (o : Output) (d : Document) (s : State) (target : Option Stated)
-      → IsDocument source d → resolved d (handed old.packages) ≡ Ok (s, target) → ComposesSource old new source true o
+  composes : (source : List ℕ) (options : EncodeOptions) (o : Output) (d : Document) (s : State) (target : Option Stated)
+      → options.define_components ≡ true → IsDocument source d → resolved d (handed old.packages) ≡ Ok (s, target)
+      → ComposesSource old new source options o
       → IsCall old new (Compose o.bytes.items (world_in o.types o.world) (ascribed_over old.packages (composition s)))
   -- a refusal, or an output that is not registered
   keeps : new.packages ≡ old.packages → IsCall old new Other

@@ -20,13 +20,13 @@ use Rattle.wac_texts.specs.Files.{Stored}
 use Rattle.wac_workspace.specs.declared.entries.Entry.{Entry}
 use Rattle.wac_workspace.specs.declared.output.Output.{Output}
 use Rattle.wac_workspace.specs.Packages.{HasBytes, Held}
-use Rattle.wac_workspace.specs.Composing.{AreAscribedBytes, ComposesSource, IsDocument, IsMeantBy, MeansSource}
+use Rattle.wac_workspace.specs.Composing.{AreAscribedBytes, IsDocument, IsMeantBy, MeansSource, RegistersIf}
 use Rattle.wac_workspace.specs.Resolving.{Handed, Resolves, handed}
 use Rattle.wac_outputs.specs.Calls.{AreCalls, none_yet, then_call, hands_in, composes, IsEntryOf, world_in}
 use Rattle.wac_outputs.proofs.Called.{carried}
 use Rattle.wac_workspace.proofs.Zips.{zip_at}
 use Rattle.wac.specs.Adding.{AddsComponents, unused}
-use Rattle.wac.specs.Running.{Outside, Puts, PutsSources, path_of}
+use Rattle.wac.specs.Running.{Outside, Puts, PutsSources, options_of, path_of}
 use Rattle.wac_runs.specs.Levels.{IsLeft, Runs_are_as_ascribed, outputs_of}
 
 -- ---- calls
@@ -91,9 +91,9 @@ composing define nested (s ∷ sources) first old last before after steps calls 
     let one : Puts define (path_of s) source old mid before puts.1 = puts.2.2 in
     let o = one.output in
     let r = resolved_by define nested (handed old.packages) source o.bytes.items one.composed.means in
-    let composed : ComposesSource old mid source true o = subst (λ b. ComposesSource old mid source b o) nested one.composed in
-    let call = composes source o r.tree r.state r.target r.read r.resolves composed in
-    let added = composed.kept.added in
+    let call = composes source (options_of define) o r.tree r.state r.target nested r.read r.resolves one.composed in
+    let kept : RegistersIf true old mid o = subst (λ b. RegistersIf b old mid o) nested one.composed.kept in
+    let added = kept.added in
     let more = composing define nested sources first mid last puts.1 after _ (then_call calls call) puts.3 in
     record {
       steps = more.steps;

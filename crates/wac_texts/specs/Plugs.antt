@@ -129,3 +129,11 @@ PlugTextRefused name plugs socket PlugTextError.NoPlugHappened =
     AreReadable name plugs socket × NoneMatches (map world_of plugs) (world_of socket)
 PlugTextRefused name plugs socket PlugTextError.NameNotSpellable = AreReadable name plugs socket × IsUnspelled plugs socket
 PlugTextRefused name plugs socket PlugTextError.Memory = Unit {0}
+
+-- the words of it
+abbrev pub plugging_words : PlugTextError → List ℕ
+plugging_words PlugTextError.NameNotReadable = codes "package name cannot be read"
+plugging_words (PlugTextError.PlugConflict i) = codes "two plugs match import `" ++ string_bytes i ++ codes "`"
+plugging_words PlugTextError.NoPlugHappened = codes "no plug matches an import of the socket"
+plugging_words PlugTextError.NameNotSpellable = codes "a name cannot be written as a string"
+plugging_words PlugTextError.Memory = codes "out of memory"

@@ -12,29 +12,47 @@ ghost use Rattle.wac_texts.specs.Worlds.{HasWorld};
 
 use crate::spelling::{has_byte, is_package_name, is_spellable};
 use std::alloc::{AllocError, AllocFailed, Global};
-use thiserror::Error;
+use std::error::Error;
+use std::fmt;
 use wac_graph_plug::{Argument, Plan, PlanError, WorldIn, plan_of};
 use wac_parser_resolve::PackageRef;
 use wac_types_names::BorrowedPackageKey;
 
 /// Why no text plugs packages.
-#[derive(Debug, Drop, Error)]
+#[derive(Debug, Drop)]
 pub enum PlugTextError {
     /// The name of the document, or the key of a package, is no name of a package.
-    #[error("package name cannot be read")]
     NameNotReadable,
     /// Two exports are for one import of the socket.
-    #[error("two plugs match import `{import}`")]
     PlugConflict { import: String },
     /// No export of a plug is for an import of the socket.
-    #[error("no plug matches an import of the socket")]
     NoPlugHappened,
     /// A name has a quote, or a character that no source may have.
-    #[error("a name cannot be written as a string")]
     NameNotSpellable,
-    #[error("out of memory")]
     Memory,
 }
+
+impl fmt::Display for PlugTextError {
+    ghost use Rattle.std.specs.Prelude.{Some};
+    ghost use Rattle.wac_texts.specs.Plugs.{plugging_words};
+
+    ghost output = { λ e. Some (plugging_words e) };
+
+    fn fmt<W: fmt::Write>(&self, f: &mut fmt::Formatter<W>) -> fmt::Result {
+        match self {
+            PlugTextError::NameNotReadable => f.write_str("package name cannot be read"),
+            PlugTextError::PlugConflict { import } => write!(
+                f,
+                "two plugs match import `{import}`"
+            ),
+            PlugTextError::NoPlugHappened => f.write_str("no plug matches an import of the socket"),
+            PlugTextError::NameNotSpellable => f.write_str("a name cannot be written as a string"),
+            PlugTextError::Memory => f.write_str("out of memory"),
+        }
+    }
+}
+
+impl Error for PlugTextError {}
 
 impl From<AllocError> for PlugTextError {
     ghost from_gives = { λ _ e. e ≡ PlugTextError.Memory };

@@ -9,8 +9,8 @@ use Rattle.wac_graph_encode.specs.declared.options.Encoded.{Encoded}
 use Rattle.wac_graph_encode.specs.Finished.{MeansImported, MeansNested}
 use Rattle.wac_parser_tree.specs.Trees as t
 use Rattle.wac_parser_refusals.specs.declared.error.Error.{Error}
-use Rattle.wac_parser_refusals.specs.Causes.{Answer, Cause, ◌>>=◌, ◌>>◌, pure}
-use Rattle.wac_parser_refusals.specs.Outcomes.{IsHeld, IsMemory}
+use Rattle.wac_parser_refusals.specs.Causes.{Answer, ◌>>=◌, ◌>>◌, pure}
+use Rattle.wac_parser_refusals.specs.Outcomes.{IsHeld}
 use Rattle.wac_parser_refusals.specs.Views.{cause_of}
 use Rattle.wac_composition.specs.Composition.{Composition}
 use Rattle.wac_composition.specs.Conflicts.{first_cause, name_cause}
@@ -23,6 +23,7 @@ use Rattle.wac_parser_resolve.specs.Resolved.{Places}
 use Rattle.wac_types_base.specs.Record.{Collection}
 use Rattle.wac_types_fit.specs.Targets.{Report}
 use Rattle.wac_parser_encode.specs.Meaning.{HasResolvedWorld, ImportsResolved, MeansResolved}
+use Rattle.wac_parser_encode.specs.Processing.{TellsSomeProcessor}
 use Rattle.wac_parser_encode.specs.Refused.{CanBeEncoded, HasNoCause, TellsCause, TellsFirst}
 use Rattle.wac_workspace.specs.Composing.{greatest, ImportsSaid, AreAscribedBytes, AreImportingBytes, IsImporting, IsMeant, MeansSaid}
 use Rattle.wac_workspace.specs.declared.output.Output.{Output}
@@ -51,13 +52,8 @@ pub graph_held : {B : Type 0} (graph : B → Graph) (places : B → Places) (tar
 graph_held graph places target (Ok s) b g same h = (places b, subst (λ (x : Graph). IsBuilt x (places b) s.0) (sym same) h.0)
 graph_held graph places target (Err c) b g same h = absurd h
 
--- want of memory may always be answered
-memory_tells : (options : EncodeOptions) (s : State) (o : Option Cause) → IsMemory o → TellsCause options s o
-memory_tells options s None h = tt
-memory_tells options s (Some c) h = absurd h
-
 names_first : (options : EncodeOptions) (q : Resolves) (f : Error) → IsErrorOf q f → NamesFirst options q f
-names_first options (Ok s) f h = memory_tells (record options { validate = true }) s.0 (cause_of f) h
+names_first options (Ok s) f h = inl h
 names_first options (Err c) f h = h
 
 pub of_resolving : (q : Resolves) (f : Error) (e : ComposeError) → IsErrorOf q f → IsResolving f e → IsOfResolving q e
@@ -142,7 +138,10 @@ module _ {B : Type 0} (graph : B → Graph) (places : B → Places) (target : B 
   late_of d ps b options (error.Parse x) validate (Ok s) is built h = absurd h
   late_of d ps b options error.NumbersExhausted validate (Ok s) is built h = absurd h
   late_of d ps b options (error.Resolution f) validate (Ok s) is built h =
-      subst (λ (v : Bool). TellsCause (record options { validate = v }) s.0 (cause_of f)) validate (h d ps s is built.0)
+      inr (
+        subst (λ (v : Bool). TellsCause (record options { validate = v }) s.0 (cause_of f)) validate (h.0 d ps s is built.0),
+        record { graph = graph b; at = places b; built = built.0; tells = h.1 },
+      )
   late_of d ps b options (error.Target r) validate (Ok s) is built h = failing d ps (graph b) (places b) s.0 built.0 options validate r s.1 (target b) is built.1 h
   late_of d ps b options error.KeyTaken validate (Ok s) is built h = absurd h
   late_of d ps b options error.BytesTaken validate (Ok s) is built h = absurd h
@@ -193,6 +192,10 @@ importing d ps g (Err f) options holds imports said = tt
 
 pub importing_named : (a b : EncodeOptions) (q : Resolves) (xs ys : List ℕ) → a.define_components ≡ b.define_components → ys ≡ xs → ImportsSaid a q xs → ImportsSaid b q ys
 importing_named a b q xs ys same bytes h = λ define. subst (λ (zs : List ℕ). IsImporting q zs) (sym bytes) (h (same ∙ define))
+
+-- the processor that they tell
+pub told_named : (a b : EncodeOptions) (xs ys : List ℕ) → a ≡ record b { validate = true } → ys ≡ xs → TellsSomeProcessor a.processor xs → TellsSomeProcessor b.processor ys
+told_named a b xs ys same bytes h = subst (λ (zs : List ℕ). TellsSomeProcessor b.processor zs) (sym bytes) (subst (λ (o : EncodeOptions). TellsSomeProcessor o.processor xs) same h)
 
 -- the world of a graph that holds what is resolved, which meets its target
 module _ {B : Type 0} (graph : B → Graph) (places : B → Places) (target : B → Option WorldId) where

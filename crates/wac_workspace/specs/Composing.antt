@@ -18,6 +18,7 @@ use Rattle.wac_parser_resolve.specs.InDocuments.{IsErrorOf}
 use Rattle.wac_parser_resolve.specs.Ascribed.{ascribed}
 use Rattle.wac_parser_resolve.specs.Meeting.{resolved}
 use Rattle.wac_parser_encode.specs.Meaning.{ImportsAscribed, MeansAscribed}
+use Rattle.wac_parser_encode.specs.Processing.{TellsSomeProcessor}
 use Rattle.wac_workspace.specs.declared.output.Output.{Output}
 use Rattle.wac_workspace.specs.declared.error.ComposeError.{ComposeError}
 use Rattle.wac_workspace.specs.declared.error.ComposeError.TheVariants as error
@@ -122,13 +123,15 @@ ImportsSource define ps source bytes = define ≡ false → IsImportingBy ps sou
 
 -- ---- what is done
 
--- The source is composed: the output's bytes mean what the source ascribes, three numbers are taken, and the output is kept.
-pub record ComposesSource (old new : Held) (source : List ℕ) (define : Bool) (o : Output) : Type 0 where
-  pub output : IsOutput old.next (handed old.packages) source define o
-  pub means : MeansSource define (handed old.packages) source o.bytes.items
-  pub imports : ImportsSource define (handed old.packages) source o.bytes.items
+-- The source is composed: the output's bytes mean what the source ascribes and tell the processor that is given, or this
+-- project's; three numbers are taken, and the output is kept.
+pub record ComposesSource (old new : Held) (source : List ℕ) (options : EncodeOptions) (o : Output) : Type 0 where
+  pub output : IsOutput old.next (handed old.packages) source options.define_components o
+  pub means : MeansSource options.define_components (handed old.packages) source o.bytes.items
+  pub imports : ImportsSource options.define_components (handed old.packages) source o.bytes.items
+  pub processor : TellsSomeProcessor options.processor o.bytes.items
   pub next : new.next ≡ old.next + 3
-  pub kept : RegistersIf define old new o
+  pub kept : RegistersIf options.define_components old new o
 
 -- the source is a document, there are three more numbers, and this is so of what the document resolves to
 pub record IsTried (next : ℕ) (ps : Handed) (source : List ℕ) (P : Resolves → Type 0) : Type 0 where

@@ -8,3 +8,4 @@ pub mod Steps
 pub mod Streaming
 pub mod Targets
 pub mod View
+pub mod Words

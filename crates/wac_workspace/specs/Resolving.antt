@@ -1,5 +1,5 @@
 -- A document over the packages of a workspace: it has a graph, or a first cause.
-use Rattle.std.specs.Prelude.{List, [], ◌∷◌, Bool, true, Option, Some, None, Ok, Err}
+use Rattle.std.specs.Prelude.{◌⊎◌, List, [], ◌∷◌, Bool, true, Option, Some, None, Ok, Err}
 use Rattle.wac_types_base.specs.declared.ids.WorldId.{WorldId}
 use Rattle.wac_types_base.specs.Record.{Collection}
 use Rattle.wac_types_fit.specs.Targets.{Report}
@@ -11,7 +11,7 @@ use Rattle.wac_graph_core.specs.Graph.{Graph}
 use Rattle.wac_parser_tree.specs.Trees.{Document}
 use Rattle.wac_parser_refusals.specs.declared.error.Error.{Error}
 use Rattle.wac_parser_refusals.specs.Causes.{Answer}
-use Rattle.wac_parser_refusals.specs.Outcomes.{IsHeld, Tells}
+use Rattle.wac_parser_refusals.specs.Outcomes.{IsHeld, IsMemory, Tells}
 use Rattle.wac_parser_refusals.specs.Views.{cause_of}
 use Rattle.wac_parser_declare.specs.Packages.{Content}
 use Rattle.wac_parser_resolve.specs.Ascribed.{ascribed}
@@ -23,7 +23,7 @@ use Rattle.wac_parser_resolve.specs.Meeting.{resolved}
 use Rattle.wac_parser_resolve.specs.Resolved.{Places}
 use Rattle.wac_parser_encode.specs.Meaning.{IsWorldOf}
 use Rattle.wac_graph_encode.specs.declared.options.EncodeOptions.{EncodeOptions}
-use Rattle.wac_parser_encode.specs.Refused.{HasNoCause, TellsCause}
+use Rattle.wac_parser_encode.specs.Refused.{HasNoCause, TellsCause, TellsSource}
 use Rattle.wac_workspace.specs.declared.entries.Entry.{Entry}
 use Rattle.wac_workspace.specs.declared.error.ComposeError.{ComposeError}
 use Rattle.wac_workspace.specs.declared.error.ComposeError.TheVariants as error
@@ -62,10 +62,18 @@ IsAccepted (Err c) = ⊥
 abbrev pub Accepts : {S : Type 0} → (define : Bool) → Document → IndexMap BorrowedPackageKey PackageRef S → Type 0
 Accepts define d ps = IsAccepted (ascribed define d (handed_list ps))
 
+-- a graph holds what is said, and where its imports do not merge the source of the error tells how they are apart
+pub record HasSource (s : State) (e : Error) : Type 0 where
+  pub graph : Graph
+  pub at : Places
+  pub built : IsBuilt graph at s
+  pub tells : TellsSource graph e
+
 -- The error names the first cause that stands against the document; where none does, the first one that stands against encoding
--- what it says in this way, with names tested.
+-- what it says in this way, with names tested, and its source. Want of memory may always be answered.
 abbrev pub NamesFirst : EncodeOptions → Resolves → Error → Type 0
-NamesFirst options (Ok s) e = TellsCause (record options { validate = true }) s.0 (cause_of e)
+NamesFirst options (Ok s) e =
+    IsMemory (cause_of e) ⊎ (TellsCause (record options { validate = true }) s.0 (cause_of e) × HasSource s.0 e)
 NamesFirst options (Err c) e = Tells (cause_of e) c
 
 -- each ask of what is said is met; the world states what it asks of the outside and what it exports, and meets the target that

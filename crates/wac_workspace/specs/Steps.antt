@@ -12,7 +12,7 @@ use Rattle.wac_graph_encode.specs.declared.options.Encoded.{Encoded}
 use Rattle.wac_parser_tree.specs.Trees.{PackageName}
 use Rattle.wac_parser_resolve.specs.Resolved.{Places}
 use Rattle.wac_parser_encode.specs.Meaning.{HasResolvedWorld}
-use Rattle.wac_parser_encode.specs.Refused.{CanBeEncoded, RefusesResolved}
+use Rattle.wac_parser_encode.specs.Refused.{CanBeEncoded, RefusesResolved, TellsSource}
 use Rattle.wac_workspace.specs.declared.compose.Numbers.{Numbers}
 use Rattle.wac_workspace.specs.declared.compose.Pair.{Pair}
 use Rattle.wac_workspace.specs.declared.output.Output.{Output}
@@ -66,10 +66,10 @@ abbrev pub FailsIn : Graph → EncodeOptions → Report → Option WorldId → T
 FailsIn g options r None = ⊥
 FailsIn g options r (Some t) = FailsTargetIn g options r t
 
--- why a document that a graph holds at these places has no component that meets its target: the first cause of encoding it, or
--- the target is not met; or want of memory
+-- why a document that a graph holds at these places has no component that meets its target: the first cause of encoding it, with
+-- its source, or the target is not met; or want of memory
 abbrev pub IsAfterwards : Graph → Places → Option WorldId → EncodeOptions → ComposeError → Type 0
-IsAfterwards g at target options (error.Resolution f) = RefusesResolved g at options f
+IsAfterwards g at target options (error.Resolution f) = RefusesResolved g at options f × TellsSource g f
 IsAfterwards g at target options (error.Target r) = FailsIn g options r target
 IsAfterwards g at target options error.Memory = Unit {0}
 IsAfterwards g at target options e = ⊥

@@ -1,5 +1,5 @@
 -- What composing from a reader to a writer does, and why it doesn't.
-use Rattle.std.specs.Prelude.{◌≡◌, ◌≤◌, ℕ, List, [], Bool, Option, length}
+use Rattle.std.specs.Prelude.{◌≡◌, ◌≤◌, ℕ, List, [], Option, length}
 use Rattle.std.specs.Io.KnownBytes.{Appends}
 use Rattle.std.specs.Str.{IsUtf8}
 use Rattle.wac_graph_encode.specs.declared.options.EncodeOptions.{EncodeOptions}
@@ -29,11 +29,11 @@ pub record Ends : Type 0 where
   pub known : Option (List ℕ)
 
 -- The source that was read is composed, and its component was written.
-pub record IsStreamed (old new : Held) (define : Bool) (ends : Ends) : Type 0 where
+pub record IsStreamed (old new : Held) (options : EncodeOptions) (ends : Ends) : Type 0 where
   pub source : List ℕ
   pub output : Output
   pub text : IsText ends.read ends.unread source
-  pub composed : ComposesSource old new source define output
+  pub composed : ComposesSource old new source options output
   pub wrote : Appends ends.written ends.known output.bytes.items
 
 -- The cause of each refusal; where writing failed the source is composed, and else nothing changed and nothing is written.
@@ -49,5 +49,5 @@ IsStopped old new options ends (error.Compose e) =
     × Appends ends.written ends.known []
 IsStopped old new options ends error.Write =
     (source : List ℕ) × (o : Output) × IsText ends.read ends.unread source
-    × ComposesSource old new source options.define_components o × AppendsPrefix ends.written ends.known o.bytes.items
+    × ComposesSource old new source options o × AppendsPrefix ends.written ends.known o.bytes.items
 IsStopped old new options ends error.Memory = (new ≡ old) × Appends ends.written ends.known []

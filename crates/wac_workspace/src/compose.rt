@@ -13,6 +13,7 @@ ghost use Rattle.wac_parser_resolve.specs.Resolved.{graph_of, places_of, target_
 ghost use Rattle.wac_parser_resolve.specs.Targeting.{IsTarget};
 ghost use Rattle.wac_graph_encode.specs.Finished.{MeansImported, MeansNested};
 ghost use Rattle.wac_parser_encode.specs.Meaning.{HasResolvedWorld, ImportsResolved, MeansResolved};
+ghost use Rattle.wac_parser_encode.specs.Processing.{TellsSomeProcessor};
 ghost use Rattle.wac_parser_encode.specs.Refused.{CanBeEncoded};
 ghost use Rattle.wac_workspace.specs.Composing.{greatest, ImportsSaid, ImportsSource, IsUnmade, IsOutput, IsGraphed, IsUnresolved, MeansSaid, MeansSource};
 ghost use Rattle.wac_workspace.specs.Packages.{AreApart};
@@ -161,6 +162,7 @@ fn encode_resolved<'d, D: Drop>(
     ensures imports { IfOk result (λ e. MeansImported (graph_of resolution.entry) options e.bytes.items) }
     ensures ascribed { IfOk result (λ e. MeansResolved (graph_of resolution.entry) options e.bytes.items) }
     ensures imported { IfOk result (λ e. ImportsResolved (graph_of resolution.entry) options e.bytes.items) }
+    ensures processor { IfOk result (λ e. TellsSomeProcessor options.processor e.bytes.items) }
     ensures resolved { IfOk result (λ e. HasResolvedWorld (graph_of resolution.entry) e.types e.world) }
     ensures free { OnOk result (CanBeEncoded (graph_of resolution.entry) options) }
     ensures target { IfOk result (λ e. MeetsTargetOf (graph_of resolution.entry) (target_of resolution.entry) e.types e.world) }
@@ -189,6 +191,7 @@ fn encode_document(
     ensures means { IfOk result (λ e. MeansSaid options (says (view_document document.now) «packages».now) e.bytes.items) }
     ensures imports { IfOk result
         (λ e. ImportsSaid options (says (view_document document.now) «packages».now) e.bytes.items) }
+    ensures processor { IfOk result (λ e. TellsSomeProcessor options.processor e.bytes.items) }
     ensures accepted { OnOk result (Accepts options.define_components (view_document document.now) «packages».now) }
     ensures composed { IfOk result (λ e. IsComposition (says (view_document document.now) «packages».now) e.types e.world) }
     ensures late { IfErr result (IsLate options (says (view_document document.now) «packages».now)) }
@@ -241,6 +244,7 @@ fn compose_document(
         (λ r. MeansSaid options (says (view_document document.now) «packages».now) r.0.bytes.items) }
     ensures imports { IfOk result
         (λ r. ImportsSaid options (says (view_document document.now) «packages».now) r.0.bytes.items) }
+    ensures processor { IfOk result (λ r. TellsSomeProcessor options.processor r.0.bytes.items) }
     ensures accepted { OnOk result (Accepts options.define_components (view_document document.now) «packages».now) }
     ensures composed { IfOk result
         (λ r. IsComposition (says (view_document document.now) «packages».now) r.0.types r.0.world) }
@@ -296,6 +300,7 @@ trait ComposeDocument: Sized + Drop {
         ensures output { IfOk result (λ r. IsOf next (stated self.now).directive.«package» r.0) }
         ensures means { IfOk result (λ r. MeansSaid options (says (stated self.now) «packages».now) r.0.bytes.items) }
         ensures imports { IfOk result (λ r. ImportsSaid options (says (stated self.now) «packages».now) r.0.bytes.items) }
+        ensures processor { IfOk result (λ r. TellsSomeProcessor options.processor r.0.bytes.items) }
         ensures accepted { OnOk result (Accepts options.define_components (stated self.now) «packages».now) }
         ensures composed { IfOk result (λ r. IsComposition (says (stated self.now) «packages».now) r.0.types r.0.world) }
         ensures after { IfOk result (λ r. r.1 ≡ next + 3) }
@@ -336,6 +341,7 @@ fn compose_whole<D: ComposeDocument>(
     ensures output { IfOk result (λ r. IsOf next (D.stated document).directive.«package» r.0) }
     ensures means { IfOk result (λ r. MeansSaid options (says (D.stated document) «packages».now) r.0.bytes.items) }
     ensures imports { IfOk result (λ r. ImportsSaid options (says (D.stated document) «packages».now) r.0.bytes.items) }
+    ensures processor { IfOk result (λ r. TellsSomeProcessor options.processor r.0.bytes.items) }
     ensures accepted { OnOk result (Accepts options.define_components (D.stated document) «packages».now) }
     ensures composed { IfOk result (λ r. IsComposition (says (D.stated document) «packages».now) r.0.types r.0.world) }
     ensures after { IfOk result (λ r. r.1 ≡ next + 3) }
@@ -371,6 +377,7 @@ fn compose_source(
         (λ r. MeansSource options.define_components (handed_list «packages».now) source.now r.0.bytes.items) }
     ensures imports { IfOk result
         (λ r. ImportsSource options.define_components (handed_list «packages».now) source.now r.0.bytes.items) }
+    ensures processor { IfOk result (λ r. TellsSomeProcessor options.processor r.0.bytes.items) }
     ensures after { IfOk result (λ r. r.1 ≡ next + 3) }
     ensures refused { IfErr result (IsUnmade next (handed_list «packages».now) source.now options) }
 {
@@ -392,6 +399,7 @@ fn compose_over(
     ensures means { IfOk result (λ r. MeansSource options.define_components (handed entries.now) source.now r.0.bytes.items) }
     ensures imports { IfOk result
         (λ r. ImportsSource options.define_components (handed entries.now) source.now r.0.bytes.items) }
+    ensures processor { IfOk result (λ r. TellsSomeProcessor options.processor r.0.bytes.items) }
     ensures after { IfOk result (λ r. r.1 ≡ next + 3) }
     ensures refused { IfErr result (IsUnmade next (handed entries.now) source.now options) }
 {
@@ -433,7 +441,7 @@ impl Workspace {
     /// directive's key, and later sources may instantiate it. Names are tested whatever the options say. Spans of faults
     /// are offsets in the source, in bytes.
     pub fn compose(&mut self, source: &str, options: EncodeOptions) -> Result<Output, ComposeError>
-        ensures composed { IfOk result (ComposesSource self.old self.new source.now options.define_components) }
+        ensures composed { IfOk result (ComposesSource self.old self.new source.now options) }
         ensures refused { IfErr result (IsRefused self.old source.now options) }
         ensures kept { OnErr result (self.new ≡ self.old) }
     {

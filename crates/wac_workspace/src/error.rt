@@ -1,6 +1,7 @@
 //! Why packages, sources and streams are refused.
 
 use std::alloc::{AllocError, AllocFailed};
+use std::fmt;
 use thiserror::Error;
 use wac_parser_grammar::Error as ParseError;
 use wac_parser_resolve::Error as ResolutionError;
@@ -8,20 +9,34 @@ use wac_streams::WriteError;
 use wac_types_fit::TargetValidationReport;
 
 /// Why a package was not added.
-#[derive(Debug, Drop, Error)]
+#[derive(Debug, Drop)]
 pub enum AddPackageError {
     /// The key stands in the workspace.
-    #[error("a package with this key is already there")]
     KeyTaken,
     /// The bytes are those of a package that stands in the workspace.
-    #[error("these bytes are already there")]
     BytesTaken,
     /// The next number is the greatest `u64`, which is never given out.
-    #[error("collection numbers have run out")]
     NumbersExhausted,
-    #[error("out of memory")]
     Memory,
 }
+
+impl fmt::Display for AddPackageError {
+    ghost use Rattle.std.specs.Prelude.{Some};
+    ghost use Rattle.wac_workspace.specs.Words.{adding_words};
+
+    ghost output = { λ e. Some (adding_words e) };
+
+    fn fmt<W: fmt::Write>(&self, f: &mut fmt::Formatter<W>) -> fmt::Result {
+        f.write_str(match self {
+            AddPackageError::KeyTaken => "a package with this key is already there",
+            AddPackageError::BytesTaken => "these bytes are already there",
+            AddPackageError::NumbersExhausted => "collection numbers have run out",
+            AddPackageError::Memory => "out of memory",
+        })
+    }
+}
+
+impl std::error::Error for AddPackageError {}
 
 impl From<AllocError> for AddPackageError {
     ghost use Rattle.std.specs.Prelude.{◌≡◌};
@@ -46,29 +61,42 @@ impl<T: Drop> From<AllocFailed<T>> for AddPackageError {
 }
 
 /// Why a source was not composed.
-#[derive(Debug, Drop, Error)]
+#[derive(Debug, Drop)]
 pub enum ComposeError {
     /// The source is no document.
-    #[error("{0}")]
     Parse(ParseError),
     /// Three more numbers would pass the greatest `u64`, which is never given out.
-    #[error("collection numbers have run out")]
     NumbersExhausted,
     /// The document has no component over these packages.
-    #[error("{0}")]
     Resolution(ResolutionError),
     /// The component does not meet the world that the directive targets.
-    #[error("the output does not meet its target world")]
     Target(TargetValidationReport),
     /// The directive's key stands in the workspace.
-    #[error("a package with this key is already there")]
     KeyTaken,
     /// The component has the bytes of a handed component.
-    #[error("these bytes are already there")]
     BytesTaken,
-    #[error("out of memory")]
     Memory,
 }
+
+impl fmt::Display for ComposeError {
+    ghost use Rattle.wac_workspace.specs.Words.{composing_words};
+
+    ghost output = { composing_words };
+
+    fn fmt<W: fmt::Write>(&self, f: &mut fmt::Formatter<W>) -> fmt::Result {
+        match self {
+            ComposeError::Parse(fault) => write!(f, "{fault}"),
+            ComposeError::NumbersExhausted => f.write_str("collection numbers have run out"),
+            ComposeError::Resolution(fault) => write!(f, "{fault}"),
+            ComposeError::Target(_) => f.write_str("the output does not meet its target world"),
+            ComposeError::KeyTaken => f.write_str("a package with this key is already there"),
+            ComposeError::BytesTaken => f.write_str("these bytes are already there"),
+            ComposeError::Memory => f.write_str("out of memory"),
+        }
+    }
+}
+
+impl std::error::Error for ComposeError {}
 
 impl From<AllocError> for ComposeError {
     ghost use Rattle.std.specs.Prelude.{◌≡◌};

@@ -29,7 +29,7 @@ pub fn compose_stream<R: ByteSource, W: ByteSink>(
     writer: &mut W,
     options: EncodeOptions,
 ) -> Result<(), StreamError>
-    ensures composed { OnOk result (IsStreamed workspace.old workspace.new options.define_components (record {
+    ensures composed { OnOk result (IsStreamed workspace.old workspace.new options (record {
       read = R.remaining reader.old;
       unread = R.remaining reader.new;
       written = W.contents writer.old;

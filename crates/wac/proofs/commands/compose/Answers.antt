@@ -1,10 +1,10 @@
 use Rattle.std.proofs.Common.{inl, inr, refl, subst}
 use Rattle.std.proofs.lemmas.Result.{on_ok_weaker}
 use Rattle.wac_workspace.specs.Packages.{Held}
-use Rattle.wac.specs.Adding.{AddsComponents}
-use Rattle.wac.specs.Refusing.{ComposesNot, StopsAdding, StopsComposing}
+use Rattle.wac.specs.Adding.{AddsComponents, unused}
+use Rattle.wac.specs.Refusing.{ComposesNot, StopsComposing}
 use Rattle.wac.specs.Running.{outside}
-use Rattle.wac.proofs.Refusing.{again, err_more, stops_map}
+use Rattle.wac.proofs.Refusing.{adding_from, again, err_more, stops_map}
 use Rattle.wac.proofs.commands.compose.Goals as goal
 
 pub returns : goal.returns
@@ -32,4 +32,4 @@ returns-in_err-add_components-clause-refused g c =
     let before = outside (g.F.Files.stored c.args.files.now) (g.F.Files.failures c.args.files.now) (g.W.Write.contents c.args.out.now) (g.W.ByteSink.calls c.args.out.now) in
     let stop = c.in_err-add_components.field-0.0 in
     again (ComposesNot c.args.text.now before before) c.from_residual.result stop c.from_residual.ensures.1
-    (inr (c.in-Ok.manifest, c.in-Ok.ensures, inl (stops_map stop (λ stops. subst (λ (w : Held). StopsAdding (g.F.Files.stored c.args.files.now) c.in-Ok.manifest.components.items w) c.new-workspace.ensures stops) c.in_err-add_components.ensures.refused, refl)))
+    (inr (c.in-Ok.manifest, c.in-Ok.ensures, inl (stops_map stop (adding_from (g.F.Files.stored c.args.files.now) c.in-Ok.manifest.components.items _ unused c.new-workspace.ensures) c.in_err-add_components.ensures.refused, refl)))

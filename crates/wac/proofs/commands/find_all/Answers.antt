@@ -8,7 +8,7 @@ use Rattle.wac_workspace.proofs.Zips.{zip_last}
 use Rattle.wac_texts.specs.Worlds.{HasWorld}
 use Rattle.wac_texts.proofs.Planned.{all_end}
 use Rattle.wac.specs.Running.{IsFound}
-use Rattle.wac.proofs.Refusing.{again_stops}
+use Rattle.wac.proofs.Refusing.{again_stops, not_found_at}
 use Rattle.wac.proofs.Running.{zip_none}
 use Rattle.wac.proofs.commands.find_all.Goals as goal
 
@@ -46,4 +46,4 @@ returns-in_err-find-clause-refused c =
     let keys = c.args.keys.now in
     let k = c.key-item.result in
     let at : slice_get keys c.loop-key.key-index ≡ Some k = get-place keys c.loop-key.key-index k c.loop-key-test.true c.key-item.is in
-    again_stops c.from_residual.result c.in_err-find.field-0.0 c.from_residual.ensures.1 (λ none. (k, among-get keys c.loop-key.key-index k at, none)) c.in_err-find.ensures.refused
+    again_stops c.from_residual.result c.in_err-find.field-0.0 c.from_residual.ensures.1 (not_found_at c.args.workspace.now.packages keys k (among-get keys c.loop-key.key-index k at)) c.in_err-find.ensures.refused

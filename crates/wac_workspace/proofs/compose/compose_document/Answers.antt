@@ -5,7 +5,7 @@ use Rattle.wac_parser_tree.specs.Views.{view_document}
 use Rattle.wac_parser_resolve.specs.Knowing.{handed_list}
 use Rattle.wac_parser_resolve.specs.Meeting.{resolved}
 use Rattle.wac_workspace.specs.Resolving.{Accepts}
-use Rattle.wac_workspace.proofs.Resolved.{composed_named, importing_named, meant_named, unencoded}
+use Rattle.wac_workspace.proofs.Resolved.{composed_named, importing_named, meant_named, told_named, unencoded}
 use Rattle.wac_workspace.proofs.compose.compose_document.Goals as goal
 
 pub returns-clause-accepted : goal.returns-clause-accepted
@@ -25,6 +25,10 @@ returns-clause-imports c =
     let e = c.in_ok-encoded.encoded in
     let o = c.in_ok-output.output in
     importing_named c.validated.result c.args.options q e.bytes.items o.bytes.items (ap (λ (x : EncodeOptions). x.define_components) c.validated.ensures) (ap (λ b. b.items) c.in_ok-output.ensures.bytes) c.in_ok-encoded.ensures.imports
+
+pub returns-clause-processor : goal.returns-clause-processor
+returns-clause-processor c =
+    told_named c.validated.result c.args.options c.in_ok-encoded.encoded.bytes.items c.in_ok-output.output.bytes.items c.validated.ensures (ap (λ b. b.items) c.in_ok-output.ensures.bytes) c.in_ok-encoded.ensures.processor
 
 pub returns-clause-composed : goal.returns-clause-composed
 returns-clause-composed c =
