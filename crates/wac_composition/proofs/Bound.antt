@@ -190,8 +190,8 @@ module _ {A : Type 0} (tag_of : Key → Tag) (c : Composition A ℕ) (met : AreM
         straight = λ q. absurd (none-some _ q);
       }
 
-  defined_stands : (x : Stated) → is_type (kind_of x) ≡ true → IsDefinition (tree (written_definition x)) → Stands (defined x) x
-  defined_stands x k d = record {
+  defined_stands : (n : Name) (x : Stated) → is_type (kind_of x) ≡ true → IsDefinition (tree (written_definition x)) → Stands (defined n x) x
+  defined_stands n x k d = record {
     item = written_definition x;
     has = (refl, d);
     fits = Fits-refl (tree (written_definition x));
@@ -204,7 +204,7 @@ module _ {A : Type 0} (tag_of : Key → Tag) (c : Composition A ℕ) (met : AreM
   given_same o x (of_import i m) k = refl
   given_same o x (of_instance j m e) k = refl
   given_same o x (of_export p y n z h i e) k = refl
-  given_same o x (of_definition y t d) k = absurd (no_type (kind_of x) k t)
+  given_same o x (of_definition n y t d) k = absurd (no_type (kind_of x) k t)
 
   -- an export of what stands
   record Export (o : Origin ℕ) (x item : Stated) (n : Name) (y : Stated) : Type 0 where
@@ -262,7 +262,7 @@ module _ {A : Type 0} (tag_of : Key → Tag) (c : Composition A ℕ) (met : AreM
   stands o x (of_import i m) = imported_stands i m
   stands o x (of_instance k m e) = instance_stands k m e
   stands o x (of_export p y n z h i e) = exported_stands p y n z h (stands p y h) i e
-  stands o x (of_definition y k d) = defined_stands y k d
+  stands o x (of_definition n y k d) = defined_stands n y k d
 
   -- ---- arguments
 
@@ -321,13 +321,13 @@ module _ {A : Type 0} (tag_of : Key → Tag) (c : Composition A ℕ) (met : AreM
   uses_there o x (of_import i m) = tt
   uses_there o x (of_instance k m e) = got_there k m e
   uses_there o x (of_export p y n z h i e) = Uses-project There (source_of asks p) n (uses_there p y h)
-  uses_there o x (of_definition y k d) = tt
+  uses_there o x (of_definition n y k d) = tt
 
   uses_before : (k : ℕ) (o : Origin ℕ) (x : Stated) → HasType c o x → IsBefore k o → Uses (λ j. (j < k) × There j) (source_of asks o)
   uses_before k o x (of_import i m) b = tt
   uses_before k o x (of_instance j m e) b = (b, got_there j m e)
   uses_before k o x (of_export p y n z h i e) b = Uses-project (λ j. (j < k) × There j) (source_of asks p) n (uses_before k p y h b)
-  uses_before k o x (of_definition y t d) b = tt
+  uses_before k o x (of_definition n y t d) b = tt
 
   argument_before : (k : ℕ) (m : Made A ℕ) (n : Name) → slice_get c.made k ≡ Some m → (v : Option Stated) → value_at (imports_of m.world) n ≡ v → (o : Option (Origin ℕ)) → value_at m.arguments n ≡ o
       → Uses (λ j. (j < k) × There j) (if is_some v then source_for tag_of c o n else Absent)

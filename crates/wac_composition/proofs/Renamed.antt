@@ -317,7 +317,7 @@ module _ {A B : Type 0} (f : A → B) where
       final_same (imported n) = λ i. value_at (outers_same g c i) (spelling_same g c n i)
       final_same (instance k) = refl
       final_same (projected o n) = ap (λ x. then_in x n) (final_same o)
-      final_same (defined x) = refl
+      final_same (defined n x) = refl
 
       world_exports_same : (es : List (Name × Origin I × Stated)) → world_exports (asks_of (renamed f g c)) (map (λ e. (e.0, origin_renamed g e.1, e.2)) es) ≡ world_exports (asks_of c) es
       world_exports_same [] = refl
@@ -330,7 +330,7 @@ module _ {A B : Type 0} (f : A → B) where
       sources_same (imported n) = ap Outer (spelling_same g c n)
       sources_same (instance k) = refl
       sources_same (projected o n) = ap (λ s. project s n) (sources_same o) ∙ project_renamed g (source_of (asks_of c) o) n
-      sources_same (defined x) = refl
+      sources_same (defined n x) = refl
 
       pub keeps_meaning : KeepsMeaning f g c
       keeps_meaning = record {

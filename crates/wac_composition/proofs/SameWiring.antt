@@ -53,7 +53,7 @@ module _ {A B : Type 0} (f : A → B) (tag_of : Key → Tag) (c : Composition A 
   source_kept (imported n) = ap Outer (meaning.spelled n)
   source_kept (instance k) = refl
   source_kept (projected o n) = ap (λ s. project s n) (source_kept o)
-  source_kept (defined x) = refl
+  source_kept (defined n x) = refl
 
   given_kept : (o : Option (Origin ℕ)) (n : Name) → source_for tag_of others (option_map (origin_renamed itself) o) n ≡ source_for tag_of c o n
   given_kept None n = ap Outer (meaning.spelled n)

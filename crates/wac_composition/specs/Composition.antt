@@ -11,8 +11,8 @@ pub data Origin (I : Type 0) : Type 0 where
   instance : I → Origin I
   -- an export of it
   projected : Origin I → Name → Origin I
-  -- the definition of this type
-  defined : Stated → Origin I
+  -- the definition of this name and type
+  defined : Name → Stated → Origin I
 
 -- something under a name; `A` says who put it there
 pub record Placed (A : Type 0) : Type 0 where

@@ -135,7 +135,7 @@ defined_twice = record {
   made = [];
   definitions = import_of 0 (codes "t") byte_list ∷ [];
   aliases = [];
-  exports = (codes "t", defined byte_list, byte_list) ∷ [];
+  exports = (codes "t", defined (codes "t") byte_list, byte_list) ∷ [];
 }
 
 -- ---- a component that imports an interface of the used one's name, without what is used

@@ -14,7 +14,7 @@ module _ {I J : Type 0} (g : I → J) where
   origin_renamed (imported n) = imported n
   origin_renamed (instance k) = instance (g k)
   origin_renamed (projected o n) = projected (origin_renamed o) n
-  origin_renamed (defined x) = defined x
+  origin_renamed (defined n x) = defined n x
 
 module _ {A B : Type 0} (f : A → B) where
   abbrev pub placed_renamed : Placed A → Placed B

@@ -40,12 +40,12 @@ pub data HasType {A : Type 0} (c : Composition A ℕ) : Origin ℕ → Stated �
   of_instance : (k : ℕ) (m : Made A ℕ) → slice_get c.made k ≡ Some m → HasType c (Origin.instance k) (instance_type m.world)
   of_export : (o : Origin ℕ) (x : Stated) (n : Name) (y : Stated) → HasType c o x → is_instance_kind (kind_of x) ≡ true
       → value_at (exports_of x) n ≡ Some y → HasType c (projected o n) y
-  of_definition : (x : Stated) → is_type (kind_of x) ≡ true → IsDefinition (tree (written_definition x))
-      → HasType c (defined x) x
+  of_definition : (n : Name) (x : Stated) → is_type (kind_of x) ≡ true → IsDefinition (tree (written_definition x))
+      → HasType c (defined n x) x
 
 -- a definition is given as it is written
 abbrev pub given_as : Origin ℕ → Stated → Stated
-given_as (defined y) x = written_definition y
+given_as (defined n y) x = written_definition y
 given_as o x = x
 
 -- it speaks of instances of lower numbers
@@ -53,7 +53,7 @@ abbrev pub IsBefore : ℕ → Origin ℕ → Type 0
 IsBefore k (imported n) = Unit {0}
 IsBefore k (Origin.instance j) = j < k
 IsBefore k (projected o n) = IsBefore k o
-IsBefore k (defined x) = Unit {0}
+IsBefore k (defined n x) = Unit {0}
 
 -- an argument of the instance k, for an import of this type
 pub record IsGiven {A : Type 0} (c : Composition A ℕ) (k : ℕ) (o : Origin ℕ) (asked : Stated) : Type 0 where

@@ -20,14 +20,14 @@ module _ {A : Type 0} where
   final_type asks (imported n) = value_at (outer_imports asks) (spelling asks n)
   final_type asks (instance k) = None
   final_type asks (projected o n) = then_in (final_type asks o) n
-  final_type asks (defined x) = Some (written_definition x)
+  final_type asks (defined n x) = Some (written_definition x)
 
   -- the source that an origin is
   abbrev pub source_of : {I : Type 0} → List (Ask A) → Origin I → Source I
   source_of asks (imported n) = Outer (spelling asks n)
   source_of asks (instance k) = Inst k
   source_of asks (projected o n) = project (source_of asks o) n
-  source_of asks (defined x) = Definition (tree (written_definition x))
+  source_of asks (defined n x) = Definition (tree (written_definition x))
 
   -- the type under an export; that of an instance's export is the one by which the step went
   abbrev pub exported_type : {I : Type 0} → List (Ask A) → Origin I × Stated → Stated

@@ -1,7 +1,7 @@
 -- The world and the names of the classes of asks are the outer imports of the asks.
 use Rattle.std.specs.Map.{keys_of}
 use Rattle.std.specs.Option.{option_map}
-use Rattle.std.proofs.Common.{◌≡◌, ℕ, true, true≢false, List, [], map, is_some, Option, Some, None, Result, Ok, Err, IsOk, IfOk, IfErr, OnOk, slice_get, refl, sym, ap, subst, ◌∙◌}
+use Rattle.std.proofs.Common.{◌≡◌, ℕ, true, true≢false, List, [], is_some, IsSome, Option, Some, None, Result, Ok, Err, IsOk, IfOk, IfErr, OnOk, slice_get, refl, sym, ap, subst, ◌∙◌}
 use Rattle.std.proofs.lemmas.Result.{IfOk-weaker, on_ok_weaker}
 use Rattle.std.proofs.lemmas.List.{length-map}
 use Rattle.wac_types_base.specs.declared.ids.WorldId.{WorldId}
@@ -21,7 +21,6 @@ use Rattle.wac_types_written.specs.Forms.{ItemsStand, UsesStand, stated_items}
 use Rattle.wac_types_written.proofs.Ids.{world_children}
 use Rattle.wac_graph_core.specs.Graph.{Graph}
 use Rattle.wac_types_parts.specs.Parts.{imports_of}
-use Rattle.wac_types_parts.specs.declared.called.Called.{Called}
 use Rattle.wac_composition.specs.Asks.{Ask, named_asks, asks_of}
 use Rattle.wac_composition.specs.Classes.{class, spelled, spelling}
 use Rattle.wac_composition.specs.Merging.{kept as kept_of, identified}
@@ -48,8 +47,8 @@ use Rattle.wac_graph_asks.specs.Asked.{IsAsked, IsAskedOnce}
 use Rattle.wac_graph_asks.specs.AskedUses.{HasSame}
 use Rattle.wac_graph_asks.specs.Classed.{AreLabels, AreSpellings}
 use Rattle.wac_graph_asks.specs.Takes.{AreSound, AreTaken, TakesAll, AreMerged, IfConflict, RefusesAll, HasNoneLabelled, conflict_in, ConflictsFor, HasNoConflict}
-use Rattle.wac_graph_asks.specs.Imported.{ImportsAlone, AreImports, AreClassed, AddsImports, AreCalled, OutersOf, AddsAllNames}
-use Rattle.wac_graph_asks.specs.Outers.{IsCalled, AreOuters, AnswersOuters}
+use Rattle.wac_graph_asks.specs.Imported.{ImportsAlone, AreImports, AreClassed, AddsImports, ArePlaces, OutersOf, PutsAllPlaces}
+use Rattle.wac_graph_asks.specs.Outers.{IsSpelledAt, AreOuters, AnswersOuters}
 use Rattle.wac_graph_asks.proofs.Asking.{asks_kept}
 use Rattle.wac_graph_asks.proofs.Importing.{imports_stand, imports_stay}
 use Rattle.wac_graph_asks.proofs.Merged.{all_merged, refused_labelled}
@@ -59,8 +58,8 @@ use Rattle.wac_graph_asks.proofs.TakingMore.{if_conflict}
 
 -- ---- of asks as they are held
 
-module _ (c : Collection) (held : List HeldAsk) (labels : List ℕ) (are : AreLabels (asks_in c held) labels) (merged : AreMerged (asks_in c held)) (d : Collection) (world : WorldId) (called : List Called)
-    (imports : AreImports d (asks_in c held) labels (each_label labels) (imports_of d world)) (names : AreCalled held labels called) where
+module _ (c : Collection) (held : List HeldAsk) (labels : List ℕ) (are : AreLabels (asks_in c held) labels) (merged : AreMerged (asks_in c held)) (d : Collection) (world : WorldId) (places : List (Name × ℕ))
+    (imports : AreImports d (asks_in c held) labels (each_label labels) (imports_of d world)) (names : ArePlaces held labels places) where
   abbrev asks : List (Ask ℕ)
   asks = asks_in c held
 
@@ -77,29 +76,29 @@ module _ (c : Collection) (held : List HeldAsk) (labels : List ℕ) (are : AreLa
           let met = asks_are_met asks a n (identified n (asked_in (class asks a)) x) m (ap (option_map (λ y. (n, identified n (asked_in (class asks a)) y))) e) in
           record { item = identified n (asked_in (class asks a)) x; there = ap (value_at (outer_imports asks)) met.0 ∙ met.1; fits = met.2 }
 
-  all_called : (one : Called) → Among one called → IsCalled asks d world one
-  all_called one m =
-      let n = names.each one m in
-      let o = from_place (λ (e : ℕ × (Name × ItemKind)). e.0) imports.outers one.at n.label (ap (λ ls. slice_get ls one.at) imports.of_labels ∙ n.at) in
+  all_placed : (n : Name) (at : ℕ) → value_at places n ≡ Some at → IsSpelledAt asks d world n at
+  all_placed m at v =
+      let n = names.each m at v in
+      let o = from_place (λ (e : ℕ × (Name × ItemKind)). e.0) imports.outers at n.label (ap (λ ls. slice_get ls at) imports.of_labels ∙ n.at) in
       let e = o.0.1 in
-      let import = imports.each_is n.label e (subst (λ l. Among (l, e) imports.outers) o.2 (among-get imports.outers one.at o.0 o.1)) in
-      let there : slice_get (imports_of d world) one.at ≡ Some e = ap (λ es. slice_get es one.at) (sym imports.are) ∙ map-get (λ (x : ℕ × (Name × ItemKind)). x.1) imports.outers one.at o.0 o.1 in
+      let import = imports.each_is n.label e (subst (λ l. Among (l, e) imports.outers) o.2 (among-get imports.outers at o.0 o.1)) in
+      let there : slice_get (imports_of d world) at ≡ Some e = ap (λ es. slice_get es at) (sym imports.are) ∙ map-get (λ (x : ℕ × (Name × ItemKind)). x.1) imports.outers at o.0 o.1 in
       let ask = ask_in c n.ask in
-      let at : slice_get asks n.place ≡ Some ask = map-get (ask_in c) held n.place n.ask n.there in
-      let own = class_is_labelled asks labels n.place n.label ask label_classes at n.of_label in
-      let met = asks_are_met asks ask e.0 (stated_of d e.1) (among-get asks n.place ask at) (ap outer_of own ∙ import.outer) in
+      let asked : slice_get asks n.place ≡ Some ask = map-get (ask_in c) held n.place n.ask n.there in
+      let own = class_is_labelled asks labels n.place n.label ask label_classes asked n.of_label in
+      let met = asks_are_met asks ask e.0 (stated_of d e.1) (among-get asks n.place ask asked) (ap outer_of own ∙ import.outer) in
       (e.1, there ∙ ap (λ m. Some (m, e.1)) (sym (ap (spelling asks) n.named ∙ met.0)))
 
-  all_named : (a : Ask ℕ) → Among a asks → Among a.name (map (λ x. x.name) called)
-  all_named a m = let x = mapped_among (ask_in c) held a m in subst (λ (b : Ask ℕ). Among b.name (map (λ x. x.name) called)) (sym x.2) (names.all x.0 x.1)
+  all_named : (a : Ask ℕ) → Among a asks → IsSome (value_at places a.name)
+  all_named a m = let x = mapped_among (ask_in c) held a m in subst (λ (b : Ask ℕ). IsSome (value_at places b.name)) (sym x.2) (names.all x.0 x.1)
 
-  outers_are : Stands d (ItemKind.Component world) → AreOuters asks d world called
+  outers_are : Stands d (ItemKind.Component world) → AreOuters asks d world places
   outers_are stands = record {
     stands = stands;
     imports = ap (stated_items d) (sym imports.are) ∙ sym (outers_are_stated d asks labels imports.outers label_classes imports.of_labels (λ l e m. (imports.each_is l e m).outer));
     distinct = imports.distinct;
     met = all_met;
-    called_there = all_called;
+    placed = all_placed;
     named = all_named;
   }
 
@@ -120,24 +119,24 @@ taken_still c d g held classes taken sound a takes =
     subst (λ asks. AreTaken d held asks classes.labels.items taken) (sym (asks_kept c d g held a.stand)) (takes sound (a.labels.as_many ∙ length-map held (ask_in c)))
 
 outers_made : (c mid d : Collection) (held : List HeldAsk) (classes : Classes) (taken : List (ℕ × Taken)) (o : Outers) → Grows c mid → TakesAll c held classes.labels.items mid taken
-    → AddsImports mid held classes taken d (imports_of d o.world) → AddsAllNames held classes.labels.items (keys_of taken) o.called.items → Stands d (ItemKind.Component o.world) → OutersOf c held classes d o
+    → AddsImports mid held classes taken d (imports_of d o.world) → PutsAllPlaces held classes.labels.items (keys_of taken) o.places → Stands d (ItemKind.Component o.world) → OutersOf c held classes d o
 outers_made c mid d held classes taken o g takes adds names stands sound a =
     let labels = classes.labels.items in
     let same = asks_kept c mid g held a.stand in
     let many = a.labels.as_many ∙ length-map held (ask_in c) in
     let t : AreTaken mid held (asks_in c held) labels taken = takes sound many in
     let imports = adds (classed_still c mid g held classes a) (taken_still c mid g held classes taken sound a takes) in
-    outers_are c held labels a.labels (all_merged c mid held labels taken takes sound a.labels) d o.world o.called.items
+    outers_are c held labels a.labels (all_merged c mid held labels taken takes sound a.labels) d o.world o.places
     (subst (λ asks. AreImports d asks labels (each_label labels) (imports_of d o.world)) same imports) (names many t.keys) stands
 
 pub outers_so : {E : Type 0} (r : Result Outers E) (c mid d : Collection) (held : List HeldAsk) (classes : Classes) (taken : List (ℕ × Taken)) → Grows c mid → TakesAll c held classes.labels.items mid taken
-    → IfOk r (λ o. AddsImports mid held classes taken d (imports_of d o.world)) → IfOk r (λ o. AddsAllNames held classes.labels.items (keys_of taken) o.called.items) → IfOk r (λ o. Stands d (ItemKind.Component o.world)) → IfOk r (OutersOf c held classes d)
+    → IfOk r (λ o. AddsImports mid held classes taken d (imports_of d o.world)) → IfOk r (λ o. PutsAllPlaces held classes.labels.items (keys_of taken) o.places) → IfOk r (λ o. Stands d (ItemKind.Component o.world)) → IfOk r (OutersOf c held classes d)
 outers_so (Ok o) c mid d held classes taken g takes imports names stands = outers_made c mid d held classes taken o g takes imports names stands
 outers_so (Err e) c mid d held classes taken g takes imports names stands = tt
 
 -- ---- of the graph that asks so
 
-module _ (all list : List (Ask ℕ)) (once : IsAskedOnce all list) (well : (a : Ask ℕ) → Among a list → IsWell a.item) (c : Collection) (world : WorldId) (called : List Called) (h : AreOuters list c world called) where
+module _ (all list : List (Ask ℕ)) (once : IsAskedOnce all list) (well : (a : Ask ℕ) → Among a list → IsWell a.item) (c : Collection) (world : WorldId) (places : List (Name × ℕ)) (h : AreOuters list c world places) where
   spell : (n : Name) → spelling all n ≡ spelling list n
   spell = (asked_once_keeps all list once well).spelled
 
@@ -154,14 +153,14 @@ module _ (all list : List (Ask ℕ)) (once : IsAskedOnce all list) (well : (a : 
         fits = subst (λ x. Fits (tree k.item) (tree x)) s.item k.fits;
       }
 
-  pub outers_of_all : AreOuters all c world called
+  pub outers_of_all : AreOuters all c world places
   outers_of_all = record {
     stands = h.stands;
     imports = h.imports ∙ sym same_imports;
     distinct = h.distinct;
     met = met_again;
-    called_there = λ one m. let k = h.called_there one m in (k.0, k.1 ∙ ap (λ n. Some (n, k.0)) (sym (spell one.name)));
-    named = λ a m. let s : HasSame list a = behind_has once a m in subst (λ n. Among n (map (λ x. x.name) called)) s.name (h.named s.other s.among);
+    placed = λ n at v. let k = h.placed n at v in (k.0, k.1 ∙ ap (λ m. Some (m, k.0)) (sym (spell n)));
+    named = λ a m. let s : HasSame list a = behind_has once a m in subst (λ n. IsSome (value_at places n)) s.name (h.named s.other s.among);
   }
 
 -- ---- what is answered
@@ -194,7 +193,7 @@ module _ {E : Type 0} (r : Result Outers E) (old new : Asked) (classes : Classes
     where
       of : (o : Outers) → OutersOf old.types old.asks.items classes new.types o → AnswersOuters old new o
       of o outers g asked =
-          outers_of_all (all old acyclic differ g asked) (list old acyclic differ g asked) (once old acyclic differ g asked) (well old acyclic differ g asked) new.types o.world o.called.items
+          outers_of_all (all old acyclic differ g asked) (list old acyclic differ g asked) (once old acyclic differ g asked) (well old acyclic differ g asked) new.types o.world o.places
           (outers (sound old acyclic differ g asked) (record { stand = asked.held.items; labels = labels; spellings = spellings }))
 
 pub answers_free : {T E : Type 0} (r : Result T E) (old : Asked) (labels : List ℕ) → IsAcyclic old.types → NamesDiffer old.types → AreLabels (asks_in old.types old.asks.items) labels → OnOk r (HasNoneLabelled old.types old.asks.items labels) → OnOk r (HasNoConflict old)

@@ -50,7 +50,7 @@ module _ (g : Graph) where
   abbrev pub origin_by : (ℕ → Origin ℕ) → ℕ → Role → NodeData → Origin ℕ
   origin_by from k (Role.Imported n) x = imported n
   origin_by from k Role.Instance x = instance k
-  origin_by from k Role.Defined x = defined (item_of x)
+  origin_by from k Role.Defined x = defined (first_export g.exports k) (item_of x)
   origin_by from k Role.Aliased x = export_of from k (first_source g.edges k)
 
   abbrev pub origin_at : (ℕ → Origin ℕ) → ℕ → Option NodeData → Origin ℕ

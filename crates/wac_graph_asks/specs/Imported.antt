@@ -1,15 +1,14 @@
--- The imports of classes of asks while they are put into a world, and the names that are asked.
-use Rattle.std.specs.Prelude.{◌≡◌, ℕ, List, [], ◌∷◌, ◌++◌, map, length, Some, slice_get}
+-- The imports of classes of asks while they are put into a world, and their places by the names that are asked.
+use Rattle.std.specs.Prelude.{◌≡◌, ℕ, List, [], length, Some, IsSome, slice_get}
 use Rattle.std.specs.Map.{keys_of}
 use Rattle.wac_types_base.specs.declared.ids.WorldId.{WorldId}
 use Rattle.wac_types_base.specs.declared.item.ItemKind.{ItemKind}
 use Rattle.wac_types_base.specs.declared.defined.World.{World}
 use Rattle.wac_types_base.specs.Record.{Collection}
-use Rattle.wac_types_base.specs.Entries.{Name, AreDistinct, names_of, values_of, put_entry}
+use Rattle.wac_types_base.specs.Entries.{Name, AreDistinct, names_of, value_at, values_of, put_entry}
 use Rattle.wac_types_base.specs.Graph.{Among}
 use Rattle.wac_types_base.specs.Collection.{Stands}
 use Rattle.wac_types_parts.specs.Parts.{imports_of}
-use Rattle.wac_types_parts.specs.declared.called.Called.{Called}
 use Rattle.wac_types_merge.specs.declared.error.AggregateError.{AggregateError}
 use Rattle.wac_composition.specs.Asks.{Ask}
 use Rattle.wac_composition.specs.Conflicts.{Cause}
@@ -83,37 +82,37 @@ MakesWorld old classes taken new w = MakesImports old classes taken new (imports
 abbrev pub RefusesIn : Asked → Classes → Cause ℕ → AggregateError → Type 0
 RefusesIn asked classes cause source = RefusesAll asked.types asked.asks.items classes.labels.items cause source
 
--- ---- names
+-- ---- places
 
--- it is the name of an ask, with the place of its label among the labels
-pub record NamesAsk (held : List HeldAsk) (labels : List ℕ) (one : Called) : Type 0 where
+-- the place is that of the label of an ask of this name
+pub record PlacesAsk (held : List HeldAsk) (labels : List ℕ) (n : Name) (i : ℕ) : Type 0 where
   pub place : ℕ
   pub ask : HeldAsk
   pub label : ℕ
   pub there : slice_get held place ≡ Some ask
-  pub named : one.name ≡ ask.name
+  pub named : n ≡ ask.name
   pub of_label : slice_get labels place ≡ Some label
-  pub at : slice_get (each_label labels) one.at ≡ Some label
+  pub at : slice_get (each_label labels) i ≡ Some label
 
--- each is the name of an ask, and each ask has its name among them
-pub record AreCalled (held : List HeldAsk) (labels : List ℕ) (called : List Called) : Type 0 where
-  pub each : (one : Called) → Among one called → NamesAsk held labels one
-  pub all : (a : HeldAsk) → Among a held → Among a.name (map (λ x. x.name) called)
+-- under each name is such a place, and under the name of each ask there is one
+pub record ArePlaces (held : List HeldAsk) (labels : List ℕ) (places : List (Name × ℕ)) : Type 0 where
+  pub each : (n : Name) (i : ℕ) → value_at places n ≡ Some i → PlacesAsk held labels n i
+  pub all : (a : HeldAsk) → Among a held → IsSome (value_at places a.name)
 
--- the name is added, with the place of its label
-abbrev pub AddsName : (keys : List ℕ) (label : ℕ) → Name → (old new : List Called) → Type 0
-AddsName keys label n old new =
-    Among label keys → (at : ℕ) × (slice_get keys at ≡ Some label) × (new ≡ old ++ record { name = n; at = at } ∷ [])
+-- the place of the label is put under the name
+abbrev pub PutsPlace : (keys : List ℕ) (label : ℕ) → Name → (old new : List (Name × ℕ)) → Type 0
+PutsPlace keys label n old new =
+    Among label keys → (at : ℕ) × (slice_get keys at ≡ Some label) × (new ≡ put_entry old n at)
 
--- where there is one key for each label, all names are added
-abbrev pub AddsAllNames : (held : List HeldAsk) (labels keys : List ℕ) → List Called → Type 0
-AddsAllNames held labels keys called = length labels ≡ length held → keys ≡ each_label labels → AreCalled held labels called
+-- where there is one key for each label, places are put under all names
+abbrev pub PutsAllPlaces : (held : List HeldAsk) (labels keys : List ℕ) → List (Name × ℕ) → Type 0
+PutsAllPlaces held labels keys places = length labels ≡ length held → keys ≡ each_label labels → ArePlaces held labels places
 
-abbrev pub CallsNames : (held : List HeldAsk) → Classes → List (ℕ × Taken) → List Called → Type 0
-CallsNames held classes taken called = AddsAllNames held classes.labels.items (keys_of taken) called
+abbrev pub PutsPlaces : (held : List HeldAsk) → Classes → List (ℕ × Taken) → List (Name × ℕ) → Type 0
+PutsPlaces held classes taken places = PutsAllPlaces held classes.labels.items (keys_of taken) places
 
 -- ---- both
 
 -- of sound asks with their classes they are the outer imports
 abbrev pub OutersOf : Collection → List HeldAsk → Classes → Collection → Outers → Type 0
-OutersOf c held classes d o = AreSound c held → AreClassed c held classes → AreOuters (asks_in c held) d o.world o.called.items
+OutersOf c held classes d o = AreSound c held → AreClassed c held classes → AreOuters (asks_in c held) d o.world o.places

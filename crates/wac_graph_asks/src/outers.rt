@@ -1,17 +1,16 @@
 //! The outer imports: one for each class of asks.
 
-ghost use Rattle.std.specs.Prelude.{◌≡◌, ◌∷◌, ◌++◌, [], IfOk, IfErr, OnOk};
+ghost use Rattle.std.specs.Prelude.{◌≡◌, [], IfOk, IfErr, OnOk};
 ghost use Rattle.std.specs.Map.{keys_of};
 ghost use Rattle.wac_types_base.specs.declared.item.ItemKind.{ItemKind};
 ghost use Rattle.wac_types_base.specs.Collection.{Grows, HasChildren, Stands, world_entry};
 ghost use Rattle.wac_types_parts.specs.Parts.{imports_of};
-ghost use Rattle.wac_types_parts.specs.declared.called.Called.{Called};
 ghost use Rattle.wac_merging.specs.Kept.{Spells};
 ghost use Rattle.wac_graph_asks.specs.Asked.{KeepsAsked};
 ghost use Rattle.wac_graph_asks.specs.AskedUses.{AskedStand};
 ghost use Rattle.wac_graph_asks.specs.Named.{SpellsClass};
 ghost use Rattle.wac_graph_asks.specs.Takes.{AreSound, ConflictsFor, HasNoConflict, HasNoneLabelled, IfConflict, IsNoConflict, Merges, MergesLabelled};
-ghost use Rattle.wac_graph_asks.specs.Imported.{AddsImport, AddsImports, AddsName, AreClassed, CallsNames, ImportsAlone, ClassesKeep, AddsAllNames};
+ghost use Rattle.wac_graph_asks.specs.Imported.{AddsImport, AddsImports, AreClassed, ImportsAlone, ClassesKeep, PutsAllPlaces, PutsPlace, PutsPlaces};
 ghost use Rattle.wac_graph_asks.specs.Imported.{MakesImports, MakesWorld, OutersOf, RefusesIn};
 ghost use Rattle.wac_graph_asks.specs.Outers.{AnswersOuters, HasImportsAlone};
 
@@ -24,22 +23,21 @@ use indexmap::IndexMap;
 use std::alloc::{AllocError, Global};
 use wac_merging::{Kept, kept_import, see_named};
 use wac_types_base::{ItemKind, NamedMap, Text, Types, World, WorldId};
-use wac_types_parts::called::Called;
 use wac_types_parts::maps::insert_under;
 
 /// The outer imports of a composition.
 pub struct Outers {
     /// They are this world's imports, in asking order.
     pub world: WorldId,
-    /// Each asked name, with the place of its import.
-    pub called: Vec<Called>,
+    /// Their places, by the names under which they are asked for.
+    pub places: NamedMap<usize>,
 }
 
 impl Drop for Outers {
     fn drop(self) {
         let Outers {
             world: _,
-            called: _,
+            places: _,
         } = self;
     }
 }
@@ -76,58 +74,51 @@ fn spelling_of<'a>(asks: &'a [Ask], classes: &Classes, class: usize) -> &'a str
     }
 }
 
-/// Adds a name that is asked, with the place of its import.
-fn push_called(called: &mut Vec<Called>, name: &Text, at: usize) -> Result<(), AllocError>
-    ensures { OnOk result (called.new.items ≡ called.old.items ++ record { name = name.now; at = at } ∷ []) }
-{
-    let name = name.copy()?;
-    called.push(Called { name, at })?;
-    Ok(())
-}
-
-/// Adds the name of an ask of this class, with the place of its import.
-fn push_name_called(
+/// Puts the place of the import of this class under the name of an ask.
+fn put_place(
+    alloc: Global,
     taken: &IndexMap<usize, Taken>,
     class: usize,
     name: &Text,
-    called: &mut Vec<Called>,
+    places: &mut NamedMap<usize>,
 ) -> Result<(), AllocError>
-    ensures { OnOk result (AddsName (keys_of taken.now.entries) class name.now called.old.items called.new.items) }
+    ensures { OnOk result (PutsPlace (keys_of taken.now.entries) class name.now places.old places.new) }
 {
     match taken.get_index_of(&class) {
-        Some(at) => push_called(called, name, at),
+        Some(at) => insert_under(alloc, places, name.as_str(), at),
         None => Ok(()),
     }
 }
 
-/// Adds the names that are asked, each with the place of its import.
-fn push_names_called(
-    asks: &[Ask],
-    labels: &[usize],
-    taken: &IndexMap<usize, Taken>,
-    called: &mut Vec<Called>,
-) -> Result<(), AllocError>
-    requires { called.old.items ≡ [] }
-    ensures { OnOk result (AddsAllNames asks.now labels.now (keys_of taken.now.entries) called.new.items) }
-{
-    for (at, ask) in asks.iter().enumerate() {
-        push_name_called(taken, place_at(labels, at), &ask.name, called)?;
-    }
-    Ok(())
-}
-
-/// The names that are asked, each with the place of its import.
-fn names_called(
+/// Puts the places of imports under the names that are asked.
+fn put_places(
     alloc: Global,
     asks: &[Ask],
     labels: &[usize],
     taken: &IndexMap<usize, Taken>,
-) -> Result<Vec<Called>, AllocError>
-    ensures { IfOk result (λ called. AddsAllNames asks.now labels.now (keys_of taken.now.entries) called.items) }
+    places: &mut NamedMap<usize>,
+) -> Result<(), AllocError>
+    requires { places.old ≡ [] }
+    ensures { OnOk result (PutsAllPlaces asks.now labels.now (keys_of taken.now.entries) places.new) }
 {
-    let mut called = Vec::new(alloc);
-    push_names_called(asks, labels, taken, &mut called)?;
-    Ok(called)
+    for (at, ask) in asks.iter().enumerate() {
+        put_place(alloc, taken, place_at(labels, at), &ask.name, places)?;
+    }
+    Ok(())
+}
+
+/// The places of imports, by the names under which they are asked for.
+fn places_of(
+    alloc: Global,
+    asks: &[Ask],
+    labels: &[usize],
+    taken: &IndexMap<usize, Taken>,
+) -> Result<NamedMap<usize>, AllocError>
+    ensures { IfOk result (PutsAllPlaces asks.now labels.now (keys_of taken.now.entries)) }
+{
+    let mut places = NamedMap::new(alloc);
+    put_places(alloc, asks, labels, taken, &mut places)?;
+    Ok(places)
 }
 
 /// Adds the outer import under a spelling.
@@ -226,12 +217,12 @@ fn outers_kept(
     ensures stands { IfOk result (λ o. Stands asked.new.types (ItemKind.Component o.world)) }
     ensures imports { IfOk result (λ o. MakesWorld asked.old classes.now taken.now.entries asked.new o.world) }
     ensures alone { IfOk result (λ o. HasImportsAlone asked.new.types o.world) }
-    ensures called { IfOk result (λ o. CallsNames asked.old.asks.items classes.now taken.now.entries o.called.items) }
+    ensures places { IfOk result (λ o. PutsPlaces asked.old.asks.items classes.now taken.now.entries o.places) }
     ensures no_conflict { IfErr result IsNoConflict }
 {
     let world = outer_world(alloc, asked, classes, taken)?;
-    let called = names_called(alloc, &asked.asks, &classes.labels, taken)?;
-    Ok(Outers { world, called })
+    let places = places_of(alloc, &asked.asks, &classes.labels, taken)?;
+    Ok(Outers { world, places })
 }
 
 /// The outer imports of classes of asks.

@@ -28,7 +28,7 @@ use Rattle.wac_types_parts.proofs.PartLaws.{identifier_there}
 use Rattle.wac_graph_causes.specs.Beside.{AreBeside, IsBeside, stands_named, standing_uses}
 
 -- neither an instance nor an interface
-abbrev IsNoInterface : Kind → Type 0
+abbrev pub IsNoInterface : Kind → Type 0
 IsNoInterface IsInstance = ⊥
 IsNoInterface IsInterface = ⊥
 IsNoInterface k = Unit {0}
@@ -38,7 +38,7 @@ IsNoInstance (ItemKind.Instance i) = ⊥
 IsNoInstance (ItemKind.Ty (TypeKind.Interface i)) = ⊥
 IsNoInstance k = Unit {0}
 
-no_kind : (k : ItemKind) → IsNoInstance k → IsNoInterface (item_kind k)
+pub no_kind : (k : ItemKind) → IsNoInstance k → IsNoInterface (item_kind k)
 no_kind (ItemKind.Instance i) h = absurd h
 no_kind (ItemKind.Ty (TypeKind.Interface i)) h = absurd h
 no_kind k h = tt
@@ -53,7 +53,7 @@ no_instance (ItemKind.Ty t) h l = absurd (l t refl)
 no_instance k h l = tt
 
 module _ (stands : Name → Bool) where
-  abbrev is_kept : Used → Bool
+  abbrev pub is_kept : Used → Bool
   is_kept u = is_standing stands (identifier_of u.interface)
 
   -- ---- what is no interface
@@ -68,7 +68,7 @@ module _ (stands : Name → Bool) where
   plain_beside (type_of (interface i us es)) ts h = absurd h
   plain_beside s ts h = ap (node s) (own_row ts)
 
-  no_interface_beside : (x : Stated) → IsNoInterface (kind_of x) → beside stands x ≡ x
+  pub no_interface_beside : (x : Stated) → IsNoInterface (kind_of x) → beside stands x ≡ x
   no_interface_beside (node s ts) h = plain_beside s ts h
 
   -- ---- interfaces
@@ -81,13 +81,13 @@ module _ (stands : Name → Bool) where
   items_with [] = refl
   items_with (x ∷ xs) = ap (λ l. (x.0, beside stands x.1) ∷ l) (items_with xs)
 
-  interface_beside : (i : Option Name) (us : List Used) (es : List (Name × Stated)) → beside stands (interface_of i us es) ≡ interface_of i (filter is_kept us) (with_values (beside stands) es)
+  pub interface_beside : (i : Option Name) (us : List Used) (es : List (Name × Stated)) → beside stands (interface_of i us es) ≡ interface_of i (filter is_kept us) (with_values (beside stands) es)
   interface_beside i us es =
       ap (beside_at stands (interface i (names_used us) (names es))) (found_places (beside_at stands) (used_places us ++ filled es))
       ∙ ap (λ (p : Parts Stated). with_standing_uses stands p) (interface_parts (beside stands) i us es)
       ∙ (λ j. interface_of i (filter is_kept (own_uses us j)) (items_with es j))
 
-  interface_type_beside : (i : Option Name) (us : List Used) (es : List (Name × Stated)) → beside stands (as_type (interface_of i us es)) ≡ as_type (beside stands (interface_of i us es))
+  pub interface_type_beside : (i : Option Name) (us : List Used) (es : List (Name × Stated)) → beside stands (as_type (interface_of i us es)) ≡ as_type (beside stands (interface_of i us es))
   interface_type_beside i us es = refl
 
   module _ (c : Collection) (a : IsAcyclic c) where
@@ -98,7 +98,7 @@ module _ (stands : Name → Bool) where
         let f = interface_found c id s in
         ap (λ x. is_standing stands (identifier_of x)) (interface_states c a id f.value f.at f.own) ∙ ap (is_standing stands) (sym (identifier_there c id f.value f.at f.own))
 
-    uses_filtered : (us : List (Name × UsedType)) → UsesStand c us → filter is_kept (stated_uses c us) ≡ stated_uses c (standing_uses stands c us)
+    pub uses_filtered : (us : List (Name × UsedType)) → UsesStand c us → filter is_kept (stated_uses c us) ≡ stated_uses c (standing_uses stands c us)
     uses_filtered [] h = refl
     uses_filtered (u ∷ us) h =
         ap (λ b. if b then stated_use c u ∷ rest else rest) (named_same u.1.interface (h u (inl refl)))

@@ -39,8 +39,7 @@ use Rattle.wac_graph_causes.specs.Alike.{dependency_of}
 use Rattle.wac_graph_causes.specs.Circling.{AddsOuters, PackagesStand, form_in, forms_in, held_cause, held_outers, late_cause, package_in, packages_in, under_name, imported_packages}
 use Rattle.wac_graph_causes.specs.Inside.{world_imports}
 use Rattle.wac_graph_causes.specs.Late.{AddsLate, AreLate, late_in, world_written}
-use Rattle.wac_graph_causes.specs.Spelling.{SpellsAll}
-use Rattle.wac_graph_causes.specs.Standing.{spelled_in}
+use Rattle.wac_graph_causes.specs.Standing.{spelled_at}
 use Rattle.wac_graph_causes.specs.Unwritable.{TellsUnwritable}
 use Rattle.wac_graph_causes.proofs.FirstCauses.{cause_next, cause_nowhere, cause_there, named_if}
 use Rattle.wac_graph_causes.proofs.LateLaws.{adds_as, adds_nothing, adds_then, late_kept}
@@ -87,16 +86,16 @@ adds_named old new g n own before after es h e fs k =
 -- ---- component types
 
 module _ (c d : Collection) (acyclic : IsAcyclic c) (g : Grows c d) where
-  pub world_kept : (es : List (Name × Name)) (w : WorldId) → Stands c (ItemKind.Component w) → world_written d es w ≡ world_written c es w
-  world_kept es w s =
-      ap (interfaces_written (spelled_in es))
+  pub world_kept : (spell : Name → Name) (w : WorldId) → Stands c (ItemKind.Component w) → world_written d spell w ≡ world_written c spell w
+  world_kept spell w s =
+      ap (interfaces_written spell)
       (sym (imports_are d g.acyclic w) ∙ ap imports_stated (stated_kept c d g (ItemKind.Component w) s) ∙ imports_are c acyclic w)
 
 -- what is written of component types that stand in an item of this name, so far
 abbrev pub inside_of : Collection → Name → List WorldId → List (Name × Stated)
 inside_of c n ws = map (named n) (flat_map (interfaces_written (λ n. n)) (map (world_imports c) ws))
 
-pub inside_more : (c : Collection) (n : Name) (ws : List WorldId) (i : ℕ) (w : WorldId) → slice_get ws i ≡ Some w → inside_of c n (take i ws) ++ map (named n) (world_written c [] w) ≡ inside_of c n (take (i + 1) ws)
+pub inside_more : (c : Collection) (n : Name) (ws : List WorldId) (i : ℕ) (w : WorldId) → slice_get ws i ≡ Some w → inside_of c n (take i ws) ++ map (named n) (world_written c (λ n. n) w) ≡ inside_of c n (take (i + 1) ws)
 inside_more c n ws i w at =
     let f = interfaces_written (λ n. n) in
     sym (map-append (named n) (flat_map f (map (world_imports c) (take i ws))) (f (world_imports c w)))
@@ -220,13 +219,13 @@ module _ (c d : Collection) (g : Grows c d) where
 
 -- ---- outer imports
 
-pub outers_added : (old mid new : Collection) (g : Grows old mid) (o : Outers) (es : List (Name × Name)) (imports : List (Name × ItemKind)) → imports ≡ imports_of old o.world → ItemsStand old imports → SpellsAll old o.world o.called.items es
-    → (x y z : List Late) → AddsLate old mid x y (world_written old es o.world) → AddsLate mid new y z (flat_map written_inside (stated_items mid imports)) → AddsOuters old new o x z
-outers_added old mid new g o es imports are stand called x y z f h asks outers =
+pub outers_added : (old mid new : Collection) (g : Grows old mid) (o : Outers) (imports : List (Name × ItemKind)) → imports ≡ imports_of old o.world → ItemsStand old imports
+    → (x y z : List Late) → AddsLate old mid x y (world_written old (spelled_at o.places imports) o.world) → AddsLate mid new y z (flat_map written_inside (stated_items mid imports)) → AddsOuters old new o x z
+outers_added old mid new g o imports are stand x y z f h asks outers =
     adds_as old new x z _ (held_outers asks old o.world)
-    ((λ i. interfaces_written (λ n. spelled_so asks old o.world o.called.items outers es called n i) (stated_items old (imports_of old o.world)) ++ flat_map written_inside (items_kept old mid g imports stand i))
+    ((λ i. interfaces_written (λ n. spelled_so asks old o.world o.places outers imports are n i) (stated_items old (imports_of old o.world)) ++ flat_map written_inside (items_kept old mid g imports stand i))
     ∙ ap (λ xs. interfaces_written (spelling asks) (stated_items old (imports_of old o.world)) ++ flat_map written_inside (stated_items old xs)) are)
-    (adds_then old mid new x y z (world_written old es o.world) (flat_map written_inside (stated_items mid imports)) f h)
+    (adds_then old mid new x y z (world_written old (spelled_at o.places imports) o.world) (flat_map written_inside (stated_items mid imports)) f h)
 
 -- ---- the first that cannot be written
 

@@ -78,11 +78,11 @@ module _ (c : Collection) (a : IsAcyclic c) where
   interfaces_stand w xs e x m = imports_stand w x (among_filtered (imports_of c w) x (subst (Among x) e m))
 
   -- what is added in the order in which the interfaces of a world are written
-  pub world_added : (es : List (Name × Name)) (w : WorldId) (xs : List (Name × ItemKind)) (order : List Name) → xs ≡ interface_items (imports_of c w)
-      → order ≡ written_names (spelled_in es) (stated_items c xs) → written_after c es xs [] order ≡ world_written c es w
-  world_added es w xs order e o =
-      ap (written_from (spelled_in es) (stated_items c xs) []) o
-      ∙ ap (λ is. written_from (spelled_in es) is [] (written_names (spelled_in es) is)) (ap (stated_items c) e ∙ sym (interfaces_are (imports_of c w) (imports_stand w)))
+  pub world_added : (spell : Name → Name) (w : WorldId) (xs : List (Name × ItemKind)) (order : List Name) → xs ≡ interface_items (imports_of c w)
+      → order ≡ written_names spell (stated_items c xs) → written_after c spell xs [] order ≡ world_written c spell w
+  world_added spell w xs order e o =
+      ap (written_from spell (stated_items c xs) []) o
+      ∙ ap (λ is. written_from spell is [] (written_names spell is)) (ap (stated_items c) e ∙ sym (interfaces_are (imports_of c w) (imports_stand w)))
 
   pub exports_stand : (w : WorldId) → ItemsStand c (world_exports_of c w)
   exports_stand w = elim (stands_or_not c (ItemKind.Component w)) [
@@ -99,11 +99,11 @@ module _ (c : Collection) (a : IsAcyclic c) where
 
   -- what is added in the order in which the exports of a package are written
   pub exports_added : (w : WorldId) (xs : List (Name × ItemKind)) (names order : List Name) → xs ≡ interface_items (world_exports_of c w) → names ≡ names_of (imports_of c w)
-      → order ≡ written_names (spelled_in []) (stated_items c xs) → written_after c [] xs names order ≡ exports_written (stated_of c (ItemKind.Component w))
+      → order ≡ written_names (λ n. n) (stated_items c xs) → written_after c (λ n. n) xs names order ≡ exports_written (stated_of c (ItemKind.Component w))
   exports_added w xs names order e n o =
       let es : stated_items c xs ≡ interfaces_in (exports_of (stated_of c (ItemKind.Component w))) = ap (stated_items c) e ∙ sym (interfaces_are (world_exports_of c w) (exports_stand w)) ∙ ap interfaces_in (sym (world_exports_are c a w)) in
       let is : names ≡ names_of (stated_imports (stated_of c (ItemKind.Component w))) = n ∙ sym (named_items (imports_of c w)) ∙ ap names_of (sym (imports_are c a w)) in
-      ap (written_from (spelled_in []) (stated_items c xs) names) o
+      ap (written_from (λ n. n) (stated_items c xs) names) o
       ∙ (λ i. written_from (λ n. n) (es i) (is i) (written_names (λ n. n) (es i)))
 
 -- ---- what is held
@@ -144,19 +144,22 @@ module _ (spell : Name → Name) (imports : List (Name × Stated)) where
       ∙ sym (append_assoc (written_at ns y) (written_from spell imports (ns ++ y ∷ []) xs) (written_at ((ns ++ y ∷ []) ++ xs) x))
       ∙ ap (λ l. (written_at ns y ++ written_from spell imports (ns ++ y ∷ []) xs) ++ written_at l x) (append_assoc ns (y ∷ []) xs)
 
-module _ (c d : Collection) (g : Grows c d) (es : List (Name × Name)) (xs : List (Name × ItemKind)) (stand : ItemsStand c xs) (s : Standing) (own : s.spelled.now ≡ es) (order : List Name) (i : ℕ) (x : Name) (at : slice_get order i ≡ Some x)
+module _ (c d : Collection) (g : Grows c d) (xs : List (Name × ItemKind)) (stand : ItemsStand c xs) (s : Standing) (order : List Name) (i : ℕ) (x : Name) (at : slice_get order i ≡ Some x)
     (before : List Name) (known : (n : Name) → has_name s.names.now n ≡ has_name (before ++ take i order) n) where
-  -- the next is written beside those before it
-  pub written_next : written_beside d s xs x ≡ written_at (spelled_in es) (stated_items c xs) (before ++ take i order) x
-  written_next =
-      (λ j. under (spelled_in (own j)) [] x (option_map (beside (λ n. has_name s.names.now (spelled_in (own j) n))) (value_at (items_kept c d g xs stand j) x)))
-      ∙ (λ j. under (spelled_in es) [] x (option_map (beside (λ n. known (spelled_in es n) j)) (value_at (stated_items c xs) x)))
+  abbrev spell : Name → Name
+  spell = spelled_in s.placed
 
-  pub written_more : written_after c es xs before (take i order) ++ written_beside d s xs x ≡ written_after c es xs before (take (i + 1) order)
+  -- the next is written beside those before it
+  pub written_next : written_beside d s xs x ≡ written_at spell (stated_items c xs) (before ++ take i order) x
+  written_next =
+      (λ j. under spell [] x (option_map (beside (λ n. has_name s.names.now (spell n))) (value_at (items_kept c d g xs stand j) x)))
+      ∙ (λ j. under spell [] x (option_map (beside (λ n. known (spell n) j)) (value_at (stated_items c xs) x)))
+
+  pub written_more : written_after c spell xs before (take i order) ++ written_beside d s xs x ≡ written_after c spell xs before (take (i + 1) order)
   written_more =
-      ap (λ l. written_after c es xs before (take i order) ++ l) written_next
-      ∙ sym (from_last (spelled_in es) (stated_items c xs) before (take i order) x)
-      ∙ ap (written_after c es xs before) (sym (take-one_more order i x at))
+      ap (λ l. written_after c spell xs before (take i order) ++ l) written_next
+      ∙ sym (from_last spell (stated_items c xs) before (take i order) x)
+      ∙ ap (written_after c spell xs before) (sym (take-one_more order i x at))
 
 -- the names that stand, with one more
 pub standing_more : (before order : List Name) (i : ℕ) (x : Name) → slice_get order i ≡ Some x → (old new : List Name) → new ≡ put_name old x → ((n : Name) → has_name old n ≡ has_name (before ++ take i order) n)

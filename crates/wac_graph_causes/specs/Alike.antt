@@ -95,7 +95,7 @@ TellsAlike o e = ⊥
 -- the packages that the graph instantiates are held, each once, and its outer imports
 pub record AreHeld (g : Graph) (asked : Asked) (outers : Outers) : Type 0 where
   pub packages : keys_of asked.packages.entries ≡ with_ids [] (package_ids g)
-  pub imports : IsOuters g asked.types outers.world outers.called.items
+  pub imports : IsOuters g asked.types outers.world outers.places
 
 -- the first names that are alike, in the graph's composition
 abbrev pub alike_cause : (define validate : Bool) → Graph → Option (Cause ℕ)

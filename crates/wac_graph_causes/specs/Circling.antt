@@ -62,14 +62,14 @@ held_outers asks c w = outers_written (spelling asks) (stated_items c (imports_o
 
 abbrev pub AddsOuters : (old new : Collection) → Outers → (before after : List Late) → Type 0
 AddsOuters old new o before after =
-    (asks : List (Ask ℕ)) → AreOuters asks old o.world o.called.items → AddsLate old new before after (held_outers asks old o.world)
+    (asks : List (Ask ℕ)) → AreOuters asks old o.world o.places → AddsLate old new before after (held_outers asks old o.world)
 
 -- ---- all
 
 module _ (define : Bool) (g : Graph) where
   pub record AreHeldLate (old new : Collection) (o : Outers) (ps : List (PackageId × WorldId)) (ds : List Definition) (all : Written)
       : Type 0 where
-    pub outers : (asks : List (Ask ℕ)) → AreOuters asks old o.world o.called.items
+    pub outers : (asks : List (Ask ℕ)) → AreOuters asks old o.world o.places
         → AreLate new all.outers.items (held_outers asks old o.world)
     pub definitions : AreLate new all.definitions.items (flat_map written_whole (forms_in old ds))
     pub packages : AreLate new all.packages.items (flat_map written_package (imported_packages define g old ps))
@@ -130,7 +130,7 @@ module _ (define : Bool) (g : Graph) (c : Collection) (o : Outers) (ps : List (P
 
   -- so it is of all asks whose outer imports these are
   abbrev pub IfOuters : (List (Ask ℕ) → Type 0) → Type 0
-  IfOuters P = (asks : List (Ask ℕ)) → AreOuters asks c o.world o.called.items → P asks
+  IfOuters P = (asks : List (Ask ℕ)) → AreOuters asks c o.world o.places → P asks
 
   abbrev pub CirclesPass : Type 0
   CirclesPass = IfOuters (λ asks. held_circle asks ≡ None)

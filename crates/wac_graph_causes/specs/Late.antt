@@ -41,13 +41,12 @@ AddsLate old new before after more = (es : List (Name × Stated)) → AreLate ol
 
 -- the import of a name as it is written beside what stands
 abbrev pub written_beside : Collection → Standing → List (Name × ItemKind) → Name → List (Name × Stated)
-written_beside c s xs n = under (spelled_in s.spelled.now) [] n (option_map (beside (stands_by s)) (value_at (stated_items c xs) n))
+written_beside c s xs n = under (spelled_in s.placed) [] n (option_map (beside (stands_by s)) (value_at (stated_items c xs) n))
 
 -- interfaces of these names one after another, where some stand already
-abbrev pub written_after : Collection → List (Name × Name) → List (Name × ItemKind) → (standing names : List Name)
-    → List (Name × Stated)
-written_after c es xs before ns = written_from (spelled_in es) (stated_items c xs) before ns
+abbrev pub written_after : Collection → (Name → Name) → List (Name × ItemKind) → (standing names : List Name) → List (Name × Stated)
+written_after c spell xs before ns = written_from spell (stated_items c xs) before ns
 
 -- the interfaces that a world imports, each as it is written
-abbrev pub world_written : Collection → List (Name × Name) → WorldId → List (Name × Stated)
-world_written c es w = interfaces_written (spelled_in es) (stated_items c (imports_of c w))
+abbrev pub world_written : Collection → (Name → Name) → WorldId → List (Name × Stated)
+world_written c spell w = interfaces_written spell (stated_items c (imports_of c w))

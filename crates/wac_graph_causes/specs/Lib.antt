@@ -5,7 +5,6 @@ pub mod Implicit
 pub mod Alike
 pub mod Unwritable
 pub mod Standing
-pub mod Spelling
 pub mod Orders
 pub mod Beside
 pub mod Late

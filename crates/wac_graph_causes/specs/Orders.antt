@@ -26,7 +26,7 @@ used_in_items c xs = flat_map (λ x. used_inside (stated_of c x.1)) xs
 
 module _ (s : Sources) where
   abbrev pub spell_in : Name → Name
-  spell_in = spelled_in s.spelled.now
+  spell_in = spelled_in s.placed
 
   -- the interfaces that are imported, as stated types
   abbrev pub interfaces_stated : List (Name × Stated)

@@ -19,7 +19,7 @@ use crate::error::Unwritten;
 use crate::inside::worlds_in;
 use crate::late::{Late, add_exports, add_world};
 use crate::names::dependency_name;
-use crate::spelling::names_called;
+use crate::standing::Placed;
 use crate::writable::unwritable;
 use indexmap::IndexMap;
 use std::alloc::{AllocError, Global};
@@ -59,12 +59,17 @@ fn add_component(
     all: &mut Vec<Late>,
 ) -> Result<(), AllocError>
     ensures adds { OnOk result (AddsLate types.old types.new all.old.items all.new.items
-        (map (λ x. (name.now, x.1)) (world_written types.old [] world))) }
+        (map (λ x. (name.now, x.1)) (world_written types.old (λ n. n) world))) }
     ensures grows { Grows types.old types.new }
 {
     let none = NamedMap::new(alloc);
+    let imports = NamedMap::new(alloc);
+    let placed = Placed {
+        places: &none,
+        imports: &imports,
+    };
     let mut own = Vec::new(alloc);
-    add_world(types, alloc, &none, world, &mut own)?;
+    add_world(types, alloc, placed, world, &mut own)?;
     add_under(alloc, name, &own, all)
 }
 
@@ -139,8 +144,11 @@ fn add_outers(
 {
     types.see_acyclic();
     let imports = imports_of(alloc, types, outers.world)?;
-    let spelled = names_called(alloc, types, outers.world, &outers.called)?;
-    add_world(types, alloc, &spelled, outers.world, all)?;
+    let placed = Placed {
+        places: &outers.places,
+        imports: &imports,
+    };
+    add_world(types, alloc, placed, outers.world, all)?;
     add_all_inside(types, alloc, &imports, all)
 }
 

@@ -14,7 +14,7 @@ ghost use Rattle.wac_graph_causes.specs.Standing.{spelled_in};
 
 use crate::beside::beside;
 use crate::order::{Sources, written_names};
-use crate::standing::Standing;
+use crate::standing::{Placed, Standing};
 use std::alloc::{AllocError, Global};
 use wac_types_base::{ItemKind, NamedMap, Names, Text, Type, Types, WorldId};
 use wac_types_parts::parts::{import_at, import_count};
@@ -123,7 +123,7 @@ fn add_standing(alloc: Global, names: &mut Names, name: &str) -> Result<(), Allo
 fn add_in_order(
     types: &mut Types,
     alloc: Global,
-    spelled: &NamedMap<Text>,
+    placed: Placed<'_>,
     interfaces: &NamedMap<ItemKind>,
     order: &[Text],
     names: &mut Names,
@@ -131,13 +131,13 @@ fn add_in_order(
 ) -> Result<(), AllocError>
     requires { ItemsStand types.old interfaces.now }
     ensures adds { OnOk result (AddsLate types.old types.new all.old.items all.new.items
-        (written_after types.old spelled.now interfaces.now names.old order.now)) }
+        (written_after types.old (spelled_in placed.entry) interfaces.now names.old order.now)) }
     ensures grows { Grows types.old types.new }
 {
     types.see_acyclic();
     for name in order {
         let standing = Standing {
-            spelled,
+            placed,
             names: &*names,
         };
         add_written(types, alloc, standing, interfaces, name.as_str(), all)?;
@@ -150,16 +150,16 @@ fn add_in_order(
 fn order_of(
     alloc: Global,
     types: &Types,
-    spelled: &NamedMap<Text>,
+    placed: Placed<'_>,
     interfaces: &NamedMap<ItemKind>,
 ) -> Result<Vec<Text>, AllocError>
     ensures { IfOk result
-        (λ v. v.items ≡ written_names (spelled_in spelled.now) (stated_items types.now interfaces.now)) }
+        (λ v. v.items ≡ written_names (spelled_in placed.entry) (stated_items types.now interfaces.now)) }
 {
     written_names(Sources {
         alloc,
         types,
-        spelled,
+        placed,
         interfaces,
     })
 }
@@ -168,19 +168,19 @@ fn order_of(
 pub(crate) fn add_world(
     types: &mut Types,
     alloc: Global,
-    spelled: &NamedMap<Text>,
+    placed: Placed<'_>,
     world: WorldId,
     all: &mut Vec<Late>,
 ) -> Result<(), AllocError>
     ensures adds { OnOk result (AddsLate types.old types.new all.old.items all.new.items
-        (world_written types.old spelled.now world)) }
+        (world_written types.old (spelled_in placed.entry) world)) }
     ensures grows { Grows types.old types.new }
 {
     types.see_acyclic();
     let interfaces = imported_interfaces(alloc, types, world)?;
-    let order = order_of(alloc, types, spelled, &interfaces)?;
+    let order = order_of(alloc, types, placed, &interfaces)?;
     let mut names = Names::new(alloc);
-    add_in_order(types, alloc, spelled, &interfaces, &order, &mut names, all)
+    add_in_order(types, alloc, placed, &interfaces, &order, &mut names, all)
 }
 
 // ---- exports
@@ -244,7 +244,11 @@ pub(crate) fn add_exports(
     types.see_acyclic();
     let none = NamedMap::new(alloc);
     let interfaces = exported_interfaces(alloc, types, world)?;
+    let placed = Placed {
+        places: &none,
+        imports: &interfaces,
+    };
     let mut names = import_names(alloc, types, world)?;
-    let order = order_of(alloc, types, &none, &interfaces)?;
-    add_in_order(types, alloc, &none, &interfaces, &order, &mut names, all)
+    let order = order_of(alloc, types, placed, &interfaces)?;
+    add_in_order(types, alloc, placed, &interfaces, &order, &mut names, all)
 }

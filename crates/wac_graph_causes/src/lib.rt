@@ -9,7 +9,6 @@ mod inside;
 mod late;
 pub mod names;
 mod order;
-mod spelling;
 mod standing;
 pub mod writable;
 

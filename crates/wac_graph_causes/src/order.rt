@@ -8,19 +8,19 @@ ghost use Rattle.wac_composition.specs.Circles.{used_inside, written_names, used
 ghost use Rattle.wac_graph_causes.specs.Orders.{AddsUsed, AddsUseAt, Puts, PutsAll, interfaces_used, spell_in, used_in_items, interfaces_stated};
 ghost use Rattle.wac_types_base.specs.Entries.{names_of, put_name, value_at};
 
-use crate::standing::spelled;
+use crate::standing::{Placed, spelled};
 use std::alloc::{AllocError, Global};
 use wac_types_base::{InterfaceId, ItemKind, NamedMap, Names, Text, Types};
 use wac_types_parts::parts::{
     export_at, export_count, identifier, interface_of, use_at, use_count,
 };
 
-/// Interfaces that are imported, by the names of their imports, and the names of the imports that are asked under names.
+/// Interfaces that are imported, by the names of their imports, and the imports that are asked under names.
 #[derive(Clone, Copy)]
 pub(crate) struct Sources<'a> {
     pub alloc: Global,
     pub types: &'a Types,
-    pub spelled: &'a NamedMap<Text>,
+    pub placed: Placed<'a>,
     pub interfaces: &'a NamedMap<ItemKind>,
 }
 
@@ -44,7 +44,7 @@ fn add_use(sources: Sources<'_>, id: InterfaceId, names: &mut Vec<Text>) -> Resu
     let Some(name) = identifier(sources.types, id) else {
         return Ok(());
     };
-    push_name(sources.alloc, names, spelled(sources.spelled, name))
+    push_name(sources.alloc, names, spelled(sources.placed, name))
 }
 
 /// Adds the name of the import that gives the interface which another one uses at a place.

@@ -229,3 +229,7 @@ module _ (g : Graph) (k : ℕ) (t : TypeKind) (name : Name) (free : node_at g k 
 -- the items of a graph stand
 pub items_stand : (g : Graph) → IsGraph g → ItemsStand g.types g.nodes
 items_stand g is k x at = (is.nodes k x at).item
+
+-- the nodes of such a list stand
+pub those_stand : (m : NodeMap) (IsSo : NodeData → Type 0) (ks : List ℕ) → AreThose m IsSo ks → (k : ℕ) → has ks k ≡ true → IsSome (map.get m k)
+those_stand m IsSo ks are k h = let r = (are k).0 h in subst IsSome (sym r.1) refl

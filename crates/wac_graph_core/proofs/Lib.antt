@@ -18,18 +18,25 @@ pub mod Registering
 pub mod Stating
 pub mod Lending
 pub mod Reached
-pub mod Passing
 pub mod Depending
 pub mod Below
 pub mod DefineSteps
 pub mod WiringLaws
-mod Covering
-mod Leading
-mod Naming
+mod Keyed
+mod TieKeys
+pub mod TiedEdges
+mod Following
+mod Tying
+mod Placing
+mod EdgeLooks
 mod NamedLists
 mod TypeSets
 mod Noting
+mod Indexing
 mod Importing
 pub mod Passed
 pub mod Copied
 mod Compared
+mod Halving
+mod Inserting
+mod EdgeOps

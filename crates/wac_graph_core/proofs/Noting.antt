@@ -1,7 +1,8 @@
 -- What is known of nodes as they come and go.
 use Rattle.std.proofs.Common.{◌≡◌, ◌≢◌, ◌+◌, ◌<◌, ◌≤◌, ◌++◌, ◌∷◌, [], take, length, get_or, set, true, IfNone, IsSome, ℕ, List, Option, Some, None, false, refl, sym, ap, subst, ◌∙◌, inl, inr}
-use Rattle.std.specs.Prelude.{Result, Ok, Err, option_map}
-use Rattle.std.specs.Result.{OnOk, is_err}
+use Rattle.std.specs.Prelude.{Result, Ok, Err, option_map, slice_get, is_some}
+use Rattle.std.specs.Result.{OnOk, is_ok}
+use Rattle.std.specs.List.{swap_remove}
 use Rattle.std.proofs.lemmas.Bool.{cases_eq}
 use Rattle.std.proofs.lemmas.List.{take_more, take_all}
 use Rattle.std.proofs.lemmas.Option.{slice_get-get_or}
@@ -14,7 +15,8 @@ use Rattle.wac_types_base.specs.Visiting.{defined_in}
 use Rattle.wac_types_base.proofs.GraphLemmas.{value_of}
 use Rattle.wac_types_base.proofs.Looked.{among-get}
 use Rattle.wac_types_fit.proofs.Items.{Among-last}
-use Rattle.wac_types_base.specs.Entries.{Name, has_name, put_name}
+use Rattle.wac_types_base.specs.Entries.{Name, AreDistinct, names_of, value_at}
+use Rattle.wac_types_base.proofs.Lists.{last_among}
 use Rattle.wac_graph_core.specs.declared.noted.Noted.{Noted}
 use Rattle.wac_graph_core.specs.Nodes.{NodeData, Role}
 use Rattle.wac_graph_core.specs.NodeMaps.{NodeMap, NoImport, IsDefinition, NoDefinition, AreThose}
@@ -22,11 +24,12 @@ use Rattle.wac_graph_core.specs.Slots.{nodes_in}
 use Rattle.wac_graph_core.specs.Edges.{has}
 use Rattle.wac_graph_core.specs.Defining.{DefinesMarked}
 use Rattle.wac_graph_core.specs.TypeMaps.{node_of, Maps}
-use Rattle.wac_graph_core.specs.Noted.{Notes, HasNotes, NotesImport, NotesType, IsNodeNoted, IsNodeForgotten, TellsDefinition, DefinesOwn, AddsDefinition}
+use Rattle.wac_graph_core.specs.Noted.{Notes, HasNotes, ForgetsImport, ForgetsType, NotesImport, NotesType, IsNodeNoted, IsNodeForgotten, TellsDefinition, DefinesOwn, AddsDefinition}
 use Rattle.wac_graph_core.proofs.GraphSteps.{no_node}
 use Rattle.wac_graph_core.proofs.NodeMap.{nodes_changed, get-remove_same, get-remove_other}
 use Rattle.wac_graph_core.proofs.NodeSteps.{new_at}
-use Rattle.wac_graph_core.proofs.Naming.{put_there, put_kept}
+use Rattle.wac_graph_core.proofs.Found.{Among-front}
+use Rattle.wac_graph_core.proofs.ExportSteps.{among_name, not_among, one_named, swap_kept}
 use Rattle.wac_graph_core.proofs.TypeSets.{type_cases}
 use Rattle.wac_graph_core.proofs.Walks.{has-push, has-kept, has_pushed}
 use Rattle.wac_graph_core.proofs.Gathering.{none_in}
@@ -34,16 +37,17 @@ use Rattle.wac_graph_core.proofs.Reached.{own_type}
 
 -- ---- one node is noted
 
-pub name_noted : (ns ms : List Name) (m : Name) (x : NodeData) → ms ≡ put_name ns m → x.role ≡ Role.Imported m → NotesImport ns x ms
-name_noted ns ms m x is role = record {
-  kept = λ n h. ap (λ l. has_name l n) is ∙ put_kept (has_name ns m) ns m n h;
-  added = λ n own.
+-- an import of a name under which none is noted
+pub import_noted : (old new : List (Name × ℕ)) (n : Name) (x : NodeData) (id : ℕ) → new ≡ old ++ (n, id) ∷ [] → x.role ≡ Role.Imported n → NotesImport old x id new
+import_noted old new n x id is role = record {
+  kept = λ e m. subst (Among e) (sym is) (Among-front old (n, id) e m);
+  added = λ m own.
       let name : n ≡ m = cc (own, role) in
-      ap (λ l. has_name l n) is ∙ ap (has_name (put_name ns m)) name ∙ put_there (has_name ns m) ns m refl;
+      subst (Among (m, id)) (sym is) (subst (λ l. Among (m, id) (old ++ (l, id) ∷ [])) (sym name) (last_among old (m, id)));
 }
 
-pub no_name_noted : (ns : List Name) (x : NodeData) → ((n : Name) → x.role ≡ Role.Imported n → ⊥) → NotesImport ns x ns
-no_name_noted ns x other = record { kept = λ n h. h; added = λ n own. absurd (other n own) }
+pub no_import_noted : (ns : List (Name × ℕ)) (x : NodeData) (id : ℕ) → ((n : Name) → x.role ≡ Role.Imported n → ⊥) → NotesImport ns x id ns
+no_import_noted ns x id other = record { kept = λ e m. m; added = λ n own. absurd (other n own) }
 
 -- a definition of a type of which none is noted
 pub type_noted : (old new : List (TypeKind × ℕ)) (t : TypeKind) (x : NodeData) (id : ℕ) → node_of old t ≡ None → Maps old t (Some id) new → x.item_kind ≡ ItemKind.Ty t → NotesType old x id new
@@ -58,15 +62,16 @@ type_noted old new t x id none put item = record {
 pub no_type_noted : (ts : List (TypeKind × ℕ)) (x : NodeData) (id : ℕ) → ((t : TypeKind) → x.role ≡ Role.Defined → x.item_kind ≡ ItemKind.Ty t → ⊥) → NotesType ts x id ts
 no_type_noted ts x id other = record { kept = λ t k at. at; added = λ t role own. absurd (other t role own) }
 
-pub unfailed : {X E : Type 0} (r : Result X E) (P : Type 0) → OnOk r P → false ≡ is_err r → P
-unfailed (Ok x) P h e = h
-unfailed (Err x) P h e = absurd (cc e)
+-- what stands on success does
+pub succeeded : {X E : Type 0} (r : Result X E) (P : Type 0) → OnOk r P → is_ok r ≡ true → P
+succeeded (Ok x) P h e = h
+succeeded (Err x) P h e = absurd (cc e)
 
-pub both_noted : (old new : Noted) (x : NodeData) (id : ℕ) → NotesImport old.imports x new.imports → NotesType old.types x id new.types → IsNodeNoted (Some old) x id (Some new)
+pub both_noted : (old new : Noted) (x : NodeData) (id : ℕ) → NotesImport old.imports.items x id new.imports.items → NotesType old.types x id new.types → IsNodeNoted (Some old) x id (Some new)
 both_noted old new x id names types = λ nodes known. record {
   imports = λ j n is. elim (new_at nodes id x j is.node is.there) [
-    | inl own ↦ names.added n (ap (λ (y : NodeData). y.role) own.1 ∙ is.role)
-    | inr other ↦ names.kept n (known.imports j n (record { node = is.node; there = other.1; role = is.role }))
+    | inl own ↦ subst (λ i. Among (n, i) new.imports.items) (sym own.0) (names.added n (ap (λ (y : NodeData). y.role) own.1 ∙ is.role))
+    | inr other ↦ names.kept (n, j) (known.imports j n (record { node = is.node; there = other.1; role = is.role }))
   ];
   types = λ j t is. elim (new_at nodes id x j is.node is.there) [
     | inl own ↦ types.added t (ap (λ (y : NodeData). y.role) own.1 ∙ is.role) (ap (λ (y : NodeData). y.item_kind) own.1 ∙ is.type) ∙ ap Some (sym own.0)
@@ -104,23 +109,32 @@ pub kept_removed : (old : NodeMap) (k : ℕ) → IsKept old (map.remove old k)
 kept_removed old k j x at = (x, (stays old k j x at).1, refl, refl)
 
 -- a node is away
-pub other_forgotten : (o : Option Noted) (x : NodeData) → IsNodeForgotten o x o
-other_forgotten o x nodes k at known = known_kept o nodes (map.remove nodes k) (kept_removed nodes k) known
-
--- and was the definition of a type, of which no other is noted
-pub definition_forgotten : (old new : Noted) (x : NodeData) (t : TypeKind) → new.imports ≡ old.imports → Maps old.types t None new.types → x.role ≡ Role.Defined → x.item_kind ≡ ItemKind.Ty t → IsNodeForgotten (Some old) x (Some new)
-definition_forgotten old new x t names gone role item nodes k at known = record {
-  imports = λ j n is. let s = stays nodes k j is.node is.there in ap (λ l. has_name l n) names ∙ known.imports j n (record { node = is.node; there = s.1; role = is.role });
-  types = λ j u is.
+pub forgotten : (old new : Noted) (x : NodeData) → ForgetsImport old.imports.items x new.imports.items → ForgetsType old.types x new.types → IsNodeForgotten (Some old) x (Some new)
+forgotten old new x names types nodes k at known = record {
+  imports = λ j n is.
       let s = stays nodes k j is.node is.there in
-      let before = known.types j u (record { node = is.node; there = s.1; role = is.role; type = is.type }) in
-      elim (type_cases u t) [
-        | inl same ↦
-            let mine = known.types k t (record { node = x; there = at; role = role; type = item }) in
-            absurd (s.0 (cc (before, ap (node_of old.types) same, mine)))
-        | inr other ↦ gone.others u other ∙ before
-      ];
+      let before = known.imports j n (record { node = is.node; there = s.1; role = is.role }) in
+      names.kept n j (λ own. s.0 (one_named old.imports.items n j k names.distinct before (known.imports k n (record { node = x; there = at; role = own })))) before;
+  types = λ j t is.
+      let s = stays nodes k j is.node is.there in
+      let before = known.types j t (record { node = is.node; there = s.1; role = is.role; type = is.type }) in
+      types t j (λ role item. s.0 (cc (before, known.types k t (record { node = x; there = at; role = role; type = item })))) before;
 }
+
+pub import_forgotten : (old new : List (Name × ℕ)) (x : NodeData) (n : Name) (e : Name × ℕ) (i : ℕ) → AreDistinct (names_of old) → x.role ≡ Role.Imported n → e.0 ≡ n → slice_get old i ≡ Some e → new ≡ swap_remove old i e → ForgetsImport old x new
+import_forgotten old new x n e i distinct role name at is = record {
+  distinct = distinct;
+  kept = λ m k other there. subst (Among (m, k)) (sym is) (swap_kept old i e (m, k) at (λ same. other (role ∙ ap Role.Imported (sym name ∙ ap (λ (p : Name × ℕ). p.0) (sym same)))) there);
+}
+
+pub no_import_forgotten : (ns : List (Name × ℕ)) (x : NodeData) → AreDistinct (names_of ns) → ForgetsImport ns x ns
+no_import_forgotten ns x distinct = record { distinct = distinct; kept = λ n k other there. there }
+
+pub type_forgotten : (old new : List (TypeKind × ℕ)) (t : TypeKind) (x : NodeData) → Maps old t None new → x.role ≡ Role.Defined → x.item_kind ≡ ItemKind.Ty t → ForgetsType old x new
+type_forgotten old new t x gone role item u k other at = elim (type_cases u t) [
+  | inl same ↦ absurd (other role (item ∙ ap ItemKind.Ty (sym same)))
+  | inr ne ↦ gone.others u ne ∙ at
+]
 
 pub kept_set : (old : NodeMap) (k : ℕ) (y n : NodeData) → map.get old k ≡ Some y → y.role ≡ n.role → y.item_kind ≡ n.item_kind → IsKept old (map.insert old k n)
 kept_set old k y n at role item j x is = elim (new_at old k n j x is) [
@@ -138,8 +152,12 @@ known_changed o slots nodes i k old new F role item sees index there read is kno
 
 -- ---- what is noted
 
-pub import_away : (s : Noted) (nodes : NodeMap) → Notes s nodes → (n : Name) → has_name s.imports n ≡ false → NoImport nodes n
-import_away s nodes known n away k is = absurd (cc (known.imports k n is, away))
+pub lacks_value : (o : Option ℕ) → is_some o ≡ false → o ≡ None
+lacks_value None e = refl
+lacks_value (Some k) e = absurd (cc e)
+
+pub import_away : (s : Noted) (nodes : NodeMap) → Notes s nodes → (n : Name) → value_at s.imports.items n ≡ None → NoImport nodes n
+import_away s nodes known n away k is = not_among s.imports.items n away (among_name s.imports.items n k (known.imports k n is))
 
 module _ (nodes : NodeMap) (t : TypeKind) where
   -- where no definition is told there is none

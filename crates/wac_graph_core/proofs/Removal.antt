@@ -14,9 +14,9 @@ use Rattle.wac_graph_core.specs.NodeMaps.{NodeMap}
 use Rattle.wac_graph_core.specs.Edges.{has, Stays, alias_edge, AreEdges, along, IsReached}
 use Rattle.wac_graph_core.specs.Graph.{Graph, node_at, instantiated, package_if, package_made, EdgeStands, AreExports, IsGraph}
 use Rattle.wac_graph_core.specs.Removing.{IsClosed}
-use Rattle.wac_graph_core.proofs.NodeMap.{get-remove_same, get-remove_other, same_shown}
+use Rattle.wac_graph_core.proofs.NodeMap.{get-insert_other, get-remove_same, get-remove_other, same_shown}
 use Rattle.wac_graph_core.proofs.Walks.{has_pushed}
-use Rattle.wac_graph_core.proofs.Found.{eq_false, passes}
+use Rattle.wac_graph_core.proofs.Found.{eq_same, eq_false, passes}
 use Rattle.wac_graph_core.proofs.NodeSteps.{get-retained, staying, stays_at, stayed, IsBelow-staying, AreOnce-below}
 use Rattle.wac_graph_core.proofs.EdgeSteps.{IsAcyclic-by, AreKeyed-sub}
 
@@ -42,6 +42,18 @@ removed_next m0 m m' gone i x within is removed so_far k =
           get-remove_other m x k ne ∙ so_far k
           ∙ sym (ap (λ l. cond (has l k) None (map.get m0 k)) front ∙ ap (λ b. cond b None (map.get m0 k)) (has-other (take i gone) x k ne))
     ]
+
+-- a node that is put in and taken out again
+pub undone : (m : NodeMap) (k : ℕ) (x : NodeData) → map.get m k ≡ None → map.retain_keys (map.insert m k x) (λ j. not (has (k ∷ []) j)) ≡ m
+undone m k x free = same_shown _ m (λ j.
+    get-retained (map.insert m k x) (λ i. not (has (k ∷ []) i)) j ∙ elim (cases_eq j k) [
+      | inl e ↦
+          let there : has (k ∷ []) j ≡ true = ap (λ b. cond b true false) (ap (λ i. k == i) e ∙ eq_same k) in
+          ap (λ b. cond (not b) (map.get (map.insert m k x) j) None) there ∙ sym (ap (map.get m) e ∙ free)
+      | inr ne ↦
+          let away : has (k ∷ []) j ≡ false = ap (λ b. cond b true false) (eq_false k j (λ e. ne (sym e))) in
+          ap (λ b. cond (not b) (map.get (map.insert m k x) j) None) away ∙ get-insert_other m k x j ne
+    ])
 
 turned : (b : Bool) (o : Option NodeData) → cond b None o ≡ cond (not b) o None
 turned true o = refl

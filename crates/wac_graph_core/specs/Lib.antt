@@ -17,9 +17,12 @@ pub mod Listing
 pub mod Reaching
 pub mod Defining
 pub mod GraphWiring
-pub mod Spans
-pub mod Ends
+pub mod Ties
+pub mod TieSteps
 pub mod EdgesView
+pub mod Following
+pub mod NodeSets
+pub mod NodeSetView
 pub mod Named
 pub mod NamedView
 pub mod TypeSets
@@ -27,3 +30,4 @@ pub mod TypeMaps
 pub mod Noted
 pub mod NotedView
 pub mod Imports
+pub mod Sorted

@@ -4,7 +4,8 @@ use Rattle.std.specs.FinMap as map
 use Rattle.wac_types_base.specs.declared.ids.DefinedTypeId.{DefinedTypeId}
 use Rattle.wac_types_base.specs.declared.item.ItemKind.{ItemKind}
 use Rattle.wac_types_base.specs.declared.item.«Type».{«Type» as TypeKind}
-use Rattle.wac_types_base.specs.Entries.{Name, has_name}
+use Rattle.wac_types_base.specs.Entries.{Name, AreDistinct, names_of}
+use Rattle.wac_types_base.specs.Graph.{Among}
 use Rattle.wac_types_base.specs.Visiting.{defined_in}
 use Rattle.wac_graph_core.specs.declared.noted.Noted.{Noted}
 use Rattle.wac_graph_core.specs.Nodes.{NodeData, Role}
@@ -17,9 +18,9 @@ use Rattle.wac_graph_core.specs.TypeMaps.{node_of}
 abbrev pub KnowsTypes : List (TypeKind × ℕ) → NodeMap → Type 0
 KnowsTypes ts nodes = (k : ℕ) (t : TypeKind) → IsDefinition nodes k (ItemKind.Ty t) → node_of ts t ≡ Some k
 
--- the name of each import is noted, and each definition by its type
+-- each import is noted by its name, and each definition by its type
 pub record Notes (s : Noted) (nodes : NodeMap) : Type 0 where
-  pub imports : (k : ℕ) (n : Name) → IsImport nodes k n → has_name s.imports n ≡ true
+  pub imports : (k : ℕ) (n : Name) → IsImport nodes k n → Among (n, k) s.imports.items
   pub types : KnowsTypes s.types nodes
 
 -- where something is known of nodes, it is of these
@@ -33,10 +34,20 @@ HasNotes (Some s) nodes = Notes s nodes
 abbrev pub DefinesNoType : NodeData → Type 0
 DefinesNoType x = (t : TypeKind) → x.role ≡ Role.Defined → x.item_kind ≡ ItemKind.Ty t → ⊥
 
--- the name is noted, where the node is an import
-pub record NotesImport (old : List Name) (x : NodeData) (new : List Name) : Type 0 where
-  pub kept : (n : Name) → has_name old n ≡ true → has_name new n ≡ true
-  pub added : (n : Name) → x.role ≡ Role.Imported n → has_name new n ≡ true
+-- the node is noted by its name, where it is an import
+pub record NotesImport (old : List (Name × ℕ)) (x : NodeData) (id : ℕ) (new : List (Name × ℕ)) : Type 0 where
+  pub kept : (e : Name × ℕ) → Among e old → Among e new
+  pub added : (n : Name) → x.role ≡ Role.Imported n → Among (n, id) new
+
+-- no name is noted twice, and each stays that is not the one that the node imports
+pub record ForgetsImport (old : List (Name × ℕ)) (x : NodeData) (new : List (Name × ℕ)) : Type 0 where
+  pub distinct : AreDistinct (names_of old)
+  pub kept : (n : Name) (k : ℕ) → (x.role ≡ Role.Imported n → ⊥) → Among (n, k) old → Among (n, k) new
+
+-- each type stays that the node does not define
+abbrev pub ForgetsType : List (TypeKind × ℕ) → NodeData → List (TypeKind × ℕ) → Type 0
+ForgetsType old x new = (t : TypeKind) (k : ℕ) → (x.role ≡ Role.Defined → x.item_kind ≡ ItemKind.Ty t → ⊥)
+    → node_of old t ≡ Some k → node_of new t ≡ Some k
 
 -- the node is noted by its type, where it is a definition
 pub record NotesType (old : List (TypeKind × ℕ)) (x : NodeData) (id : ℕ) (new : List (TypeKind × ℕ)) : Type 0 where

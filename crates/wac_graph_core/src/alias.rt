@@ -1,19 +1,52 @@
 //! Exports of instances as nodes.
 
-ghost use Rattle.std.specs.Prelude.{◌≡◌, ℕ, IfOk, IfErr, IfSome, IfNone, OnErr};
+ghost use Rattle.std.specs.Prelude.{◌≡◌, ℕ, None, IfOk, IfErr, IfSome, IfNone, IsSome, OnErr};
+ghost use Rattle.std.specs.FinMap as map;
 ghost use Rattle.wac_types_base.specs.Collection.{Stands};
 ghost use Rattle.wac_types_base.specs.Entries.{Name};
-ghost use Rattle.wac_graph_core.specs.Edges.{HasAlias};
+ghost use Rattle.wac_graph_core.specs.Edges.{HasAlias, alias_edge};
+ghost use Rattle.wac_graph_core.specs.NodeMaps.{AreBelow};
 ghost use Rattle.wac_graph_core.specs.Graph.{ContainsNode, IsExport, IsStatedExport};
-ghost use Rattle.wac_graph_core.specs.Steps.{Aliases};
+ghost use Rattle.wac_graph_core.specs.Steps.{AddsEdge, Aliases};
 ghost use Rattle.wac_graph_core.specs.Refusals.{AliasRefused};
 
-use crate::edge::{Edge, Label, add_edge, find_alias, find_source};
+use crate::edges::Edges;
 use crate::error::AliasError;
 use crate::graph::CompositionGraph;
 use crate::ids::NodeId;
 use crate::node::{Node, NodeKind};
+use crate::nodes::Nodes;
+use crate::tie::Tie;
+use std::alloc::AllocError;
 use wac_types_base::{ItemKind, Text};
+
+/// Adds the node of an export of an instance that has none.
+fn insert_alias(
+    nodes: &mut Nodes,
+    edges: &mut Edges,
+    node: Node,
+    instance: NodeId,
+    tie: Tie,
+    name: Text,
+) -> Result<NodeId, AllocError>
+    requires tie { tie ≡ Tie.Alias name }
+    requires stand { (i k : ℕ) (n : Name) → HasAlias edges.old i n k → IsSome (map.get nodes.old k) }
+    requires none { (k : ℕ) → HasAlias edges.old instance name k → ⊥ }
+    ensures above { IfOk result (λ id. AreBelow nodes.old id) }
+    ensures free { IfOk result (λ id. map.get nodes.old id ≡ None) }
+    ensures nodes { IfOk result (λ id. nodes.new ≡ map.insert nodes.old id node) }
+    ensures edges { IfOk result (λ id. AddsEdge edges.old edges.new (alias_edge instance id name)) }
+    ensures kept { OnErr result ((nodes.new ≡ nodes.old) × (edges.new ≡ edges.old)) }
+{
+    let id = nodes.insert(node)?;
+    match edges.add_alias(instance, tie, name, id) {
+        Ok(()) => Ok(id),
+        Err(error) => {
+            nodes.remove_all(&[id]);
+            Err(error)
+        }
+    }
+}
 
 impl CompositionGraph {
     /// What an export of an instance is.
@@ -50,19 +83,14 @@ impl CompositionGraph {
         ensures kept { OnErr result (self.new ≡ self.old) }
     {
         let item = self.export_item(instance, export)?;
-        if let Some(alias) = find_alias(&self.edges, instance, export) {
+        let tie = Tie::Alias(Text::from_str(self.alloc, export)?);
+        if let Some(alias) = self.edges.alias(instance, &tie) {
             return Ok(alias);
         }
-        self.edges.reserve(1)?;
-        let name = Text::new(String::from_str(self.alloc, export)?);
+        self.see_sound();
+        let name = Text::from_str(self.alloc, export)?;
         let node = Node::new(NodeKind::Alias, None, item);
-        let id = self.nodes.insert(node)?;
-        let edge = Edge {
-            from: instance,
-            to: id,
-            label: Label::Alias(name),
-        };
-        add_edge(&mut self.edges, edge);
+        let id = insert_alias(&mut self.nodes, &mut self.edges, node, instance, tie, name)?;
         Ok(id)
     }
 }
@@ -73,6 +101,6 @@ impl CompositionGraph {
         ensures found { IfSome result (λ x. HasAlias self.now.edges x.0 x.1.now alias) }
         ensures none { IfNone result ((i : ℕ) (n : Name) → HasAlias self.now.edges i n alias → ⊥) }
     {
-        find_source(&self.edges, alias)
+        self.edges.source(alias)
     }
 }

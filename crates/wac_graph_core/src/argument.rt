@@ -8,7 +8,7 @@ ghost use Rattle.wac_graph_core.specs.Graph.{ContainsNode, IsArgument, IsStatedI
 ghost use Rattle.wac_graph_core.specs.Steps.{NodeFits, SetsArgument, UnsetsArgument};
 ghost use Rattle.wac_graph_core.specs.Refusals.{ArgumentRefused, LacksImport, TellsMismatch, NodeMismatches, WrittenFits, WrittenMismatches};
 
-use crate::edge::{Edge, Follow, add_edge, find_argument, is_among, reached_from, remove_argument};
+use crate::edge::{Follow, reached_from};
 use crate::error::InstantiationArgumentError;
 use crate::graph::CompositionGraph;
 use crate::ids::NodeId;
@@ -158,7 +158,7 @@ impl CompositionGraph {
     {
         let item = self.argument_item(instantiation, name)?;
         let own = String::from_str(self.alloc, name)?;
-        if let Some(passed) = find_argument(&self.edges, instantiation, name) {
+        if let Some(passed) = self.edges.argument(instantiation, &own) {
             if passed.index() == argument.index() {
                 return Ok(());
             }
@@ -171,14 +171,12 @@ impl CompositionGraph {
             return Err(InstantiationArgumentError::ArgumentTypeMismatch { name: own, source });
         }
         let seen = reached_from(self.alloc, &self.edges, Follow::Flow, instantiation)?;
-        if is_among(seen.as_slice(), argument) {
+        if seen.has(argument) {
             return Err(InstantiationArgumentError::WouldFormCycle {
                 node: instantiation,
             });
         }
-        self.edges.reserve(1)?;
-        let edge = Edge::argument(argument, instantiation, own);
-        add_edge(&mut self.edges, edge);
+        self.edges.add_argument(argument, instantiation, own)?;
         Ok(())
     }
 
@@ -195,7 +193,8 @@ impl CompositionGraph {
         ensures kept { OnErr result (self.new ≡ self.old) }
     {
         self.argument_item(instantiation, name)?;
-        remove_argument(&mut self.edges, argument, instantiation, name);
+        let own = String::from_str(self.alloc, name)?;
+        self.edges.remove_argument(argument, instantiation, own);
         Ok(())
     }
 }

@@ -1,19 +1,21 @@
 //! Definitions of types.
 
-ghost use Rattle.std.specs.Prelude.{◌≡◌, ◌≤◌, ◌+◌, [], IsTrue, IfOk, IfErr, IfSome, IfNone, OnOk, OnErr, length, vec_len, vec_capacity, string_bytes};
+ghost use Rattle.std.specs.Prelude.{◌≡◌, [], ℕ, None, true, IsTrue, IfOk, IfErr, IfSome, IfNone, IsSome, OnErr, string_bytes};
+ghost use Rattle.std.specs.FinMap as map;
 ghost use Rattle.std.specs.Bool.{Decides};
 ghost use Rattle.wac_types_base.specs.Collection.{Stands};
-ghost use Rattle.wac_graph_core.specs.Edges.{AddsEach, dependency_edge};
-ghost use Rattle.wac_graph_core.specs.NodeMaps.{IsDefinition, NoDefinition, AreThose};
+ghost use Rattle.wac_graph_core.specs.Edges.{has};
+ghost use Rattle.wac_graph_core.specs.Ties.{AddsDependencies};
+ghost use Rattle.wac_graph_core.specs.NodeMaps.{AreBelow, IsDefinition, NoDefinition, AreThose};
 ghost use Rattle.wac_graph_core.specs.Nodes.{IsResource};
 ghost use Rattle.wac_graph_core.specs.Defining.{IsUserOf, MayDefine, DefinesType, DefineRefused};
 
-use crate::edge::{Edge, Label};
 use crate::edges::Edges;
 use crate::error::{DefineTypeError, NameError};
 use crate::graph::{CompositionGraph, is_extern_name};
 use crate::ids::NodeId;
 use crate::node::Node;
+use crate::nodes::Nodes;
 use std::alloc::AllocError;
 use wac_types_base::visit::defined_of;
 use wac_types_base::{ItemKind, Text, Type};
@@ -24,43 +26,29 @@ fn is_resource(ty: Type) -> bool
     matches!(ty, Type::Resource(_))
 }
 
-/// Adds the dependencies of a node, for which there is room.
-fn depend_on(edges: &mut Edges, sources: &[NodeId], node: NodeId)
-    requires { vec_len edges.old + length sources.now ≤ vec_capacity edges.old }
-    ensures added { AddsEach (λ source. dependency_edge source node) edges.old.items edges.new.items sources.now }
-    ensures len { vec_len edges.new ≡ vec_len edges.old + length sources.now }
-    ensures capacity { vec_capacity edges.new ≡ vec_capacity edges.old }
+/// Adds a definition that uses some and is used by others.
+fn insert_definition(
+    nodes: &mut Nodes,
+    edges: &mut Edges,
+    node: Node,
+    sources: &[NodeId],
+    targets: &[NodeId],
+) -> Result<NodeId, AllocError>
+    requires { (k : ℕ) → has sources.now k ≡ true → IsSome (map.get nodes.old k) }
+    ensures above { IfOk result (λ id. AreBelow nodes.old id) }
+    ensures free { IfOk result (λ id. map.get nodes.old id ≡ None) }
+    ensures nodes { IfOk result (λ id. nodes.new ≡ map.insert nodes.old id node) }
+    ensures edges { IfOk result (λ id. AddsDependencies edges.old edges.new id sources.now targets.now) }
+    ensures kept { OnErr result ((nodes.new ≡ nodes.old) × (edges.new ≡ edges.old)) }
 {
-    for source in sources {
-        edges.push_reserved(Edge {
-            from: *source,
-            to: node,
-            label: Label::Dependency,
-        });
+    let id = nodes.insert(node)?;
+    match edges.add_dependencies(id, sources, targets) {
+        Ok(()) => Ok(id),
+        Err(error) => {
+            nodes.remove_all(&[id]);
+            Err(error)
+        }
     }
-}
-
-/// Adds the dependencies on a node, for which there is room.
-fn depended_by(edges: &mut Edges, node: NodeId, targets: &[NodeId])
-    requires { vec_len edges.old + length targets.now ≤ vec_capacity edges.old }
-    ensures { AddsEach (λ target. dependency_edge node target) edges.old.items edges.new.items targets.now }
-{
-    for target in targets {
-        edges.push_reserved(Edge {
-            from: node,
-            to: *target,
-            label: Label::Dependency,
-        });
-    }
-}
-
-/// Makes room for so many edges, and for so many more.
-fn reserve_both(edges: &mut Edges, first: usize, second: usize) -> Result<(), AllocError>
-    ensures room { OnOk result (vec_len edges.new + (first + second) ≤ vec_capacity edges.new) }
-    ensures same { edges.new.items ≡ edges.old.items }
-{
-    // No allocator has room for as many as the greatest number.
-    edges.reserve(first.saturating_add(second))
 }
 
 impl CompositionGraph {
@@ -135,12 +123,10 @@ impl CompositionGraph {
         let told = Text::new(String::from_str(self.alloc, name)?);
         let sources = self.nodes.used_by(self.alloc, &self.types, ty)?;
         let targets = self.users_of(ty)?;
-        reserve_both(&mut self.edges, sources.len(), targets.len())?;
         self.exports.reserve(1)?;
         let node = Node::defined(ty, told);
-        let id = self.nodes.insert(node)?;
-        depend_on(&mut self.edges, sources.as_slice(), id);
-        depended_by(&mut self.edges, id, targets.as_slice());
+        let (used, users) = (sources.as_slice(), targets.as_slice());
+        let id = insert_definition(&mut self.nodes, &mut self.edges, node, used, users)?;
         self.exports.push_reserved(own, id);
         self.defined_below = self.types.defined_types().len();
         Ok(id)

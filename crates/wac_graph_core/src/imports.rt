@@ -6,7 +6,7 @@ ghost use Rattle.std.specs.Iterator.{YieldsFirstBy, item_count};
 ghost use Rattle.wac_graph_core.specs.Graph.{package_if};
 ghost use Rattle.wac_graph_core.specs.Imports.{unbound_imports, imports_of};
 
-use crate::edge::{Edge, argument_found, edges_to};
+use crate::edges::Edges;
 use crate::graph::CompositionGraph;
 use crate::ids::{NodeId, PackageId};
 use crate::slots::SlotIter;
@@ -51,7 +51,7 @@ impl<'a> Iterator for ExplicitIter<'a> {
 /// The imports of one instance that have no argument, seen as the list of those that are left.
 #[derive(Drop)]
 struct UnboundIter<'a> {
-    edges: &'a [Edge],
+    edges: &'a Edges,
     instantiation: NodeId,
     names: &'a [String],
     kinds: &'a [ItemKind],
@@ -72,11 +72,11 @@ impl<'a> Model for UnboundIter<'a> {
 
 impl<'a> UnboundIter<'a> {
     /// None are left.
-    fn empty() -> Self
+    fn empty(edges: &'a Edges) -> Self
         ensures { result ≡ [] }
     {
         UnboundIter {
-            edges: &[],
+            edges,
             instantiation: NodeId::new(0),
             names: &[],
             kinds: &[],
@@ -98,7 +98,7 @@ impl<'a> Iterator for UnboundIter<'a> {
             };
             self.names = names;
             self.kinds = kinds;
-            if argument_found(self.edges, self.instantiation, name.as_str()).is_none() {
+            if self.edges.argument(self.instantiation, name).is_none() {
                 return Some((name.as_str(), *kind, None));
             }
         }
@@ -194,13 +194,13 @@ impl CompositionGraph {
             Some(package) => {
                 let imports = &self.types.world(package.ty()).imports;
                 UnboundIter {
-                    edges: edges_to(&self.edges, node),
+                    edges: &self.edges,
                     instantiation: node,
                     names: imports.names(),
                     kinds: imports.values(),
                 }
             }
-            None => UnboundIter::empty(),
+            None => UnboundIter::empty(&self.edges),
         }
     }
 
@@ -215,7 +215,7 @@ impl CompositionGraph {
             },
             filled: FilledIter {
                 graph: self,
-                unbound: UnboundIter::empty(),
+                unbound: UnboundIter::empty(&self.edges),
                 entries: self.nodes.entries(),
             },
         }

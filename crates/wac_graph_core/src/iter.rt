@@ -6,7 +6,7 @@ ghost use Rattle.std.specs.FinMap as map;
 ghost use Rattle.wac_graph_core.specs.Graph.{ContainsNode};
 ghost use Rattle.wac_graph_core.specs.Listing.{held_list, passed_to};
 
-use crate::edge::{Edge, argument_found, edges_to};
+use crate::edges::Edges;
 use crate::graph::CompositionGraph;
 use crate::ids::NodeId;
 use crate::node::Node;
@@ -112,7 +112,7 @@ impl<'a> Iterator for PackageIter<'a> {
 /// The arguments of an instantiation in the order of its imports, seen as the list of those that are left.
 #[derive(Drop)]
 pub struct ArgumentIter<'a> {
-    edges: &'a [Edge],
+    edges: &'a Edges,
     instantiation: NodeId,
     names: &'a [String],
 }
@@ -138,7 +138,7 @@ impl<'a> Iterator for ArgumentIter<'a> {
     fn next(&mut self) -> Option<(&'a str, NodeId)> {
         while let Some((name, rest)) = self.names.split_first() {
             self.names = rest;
-            if let Some(node) = argument_found(self.edges, self.instantiation, name.as_str()) {
+            if let Some(node) = self.edges.argument(self.instantiation, name) {
                 return Some((name.as_str(), node));
             }
         }
@@ -184,7 +184,7 @@ impl CompositionGraph {
             None => &[],
         };
         ArgumentIter {
-            edges: edges_to(&self.edges, instantiation),
+            edges: &self.edges,
             instantiation,
             names,
         }

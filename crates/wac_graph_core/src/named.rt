@@ -6,8 +6,8 @@ ghost use Rattle.wac_types_base.specs.Entries.{Name, value_at, names_of, IsNew, 
 ghost use Rattle.wac_graph_core.specs.Edges.{has};
 ghost use Rattle.wac_graph_core.specs.Exporting.{place_of};
 
-use crate::edge::is_among;
 use crate::ids::NodeId;
+use crate::node_set::NodeSet;
 use indexmap::IndexMap;
 use std::alloc::{AllocError, Global};
 use std::marker::Model;
@@ -111,10 +111,10 @@ impl NamedNodes {
     }
 
     /// Takes away those of the nodes in the list.
-    pub(crate) fn retain_apart(&mut self, gone: &[NodeId])
+    pub(crate) fn retain_apart(&mut self, gone: &NodeSet)
         ensures { self.new.items ≡ filter (λ e. not (has gone.now e.1)) self.old.items }
     {
-        self.map.retain(|_, node| !is_among(gone, *node));
+        self.map.retain(|_, node| !gone.has(*node));
     }
 
     /// The same nodes under their names again.

@@ -190,7 +190,7 @@ impl Nodes {
         ensures { result ≡ true → NoImport self.now name.now }
     {
         match &self.noted {
-            Some(noted) => !noted.imports.contains(name),
+            Some(noted) => noted.imports.get(name).is_none(),
             None => false,
         }
     }

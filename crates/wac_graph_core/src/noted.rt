@@ -1,27 +1,29 @@
 //! What is known of nodes by one look.
 
-ghost use Rattle.std.specs.Prelude.{◌≡◌, None, Some, true, IfSome, IfNone, OnOk};
+ghost use Rattle.std.specs.Prelude.{◌≡◌, ◌∷◌, ◌++◌, [], None, Some, true, string_bytes, IfSome, IfNone, OnOk};
 ghost use Rattle.wac_types_base.specs.declared.item.ItemKind.{ItemKind};
+ghost use Rattle.wac_types_base.specs.Entries.{IsNew};
 ghost use Rattle.wac_graph_core.specs.Nodes.{Role};
-ghost use Rattle.wac_graph_core.specs.Noted.{DefinesNoType, NotesImport, NotesType, IsNodeNoted, IsNodeForgotten};
+ghost use Rattle.wac_graph_core.specs.Noted.{DefinesNoType, ForgetsImport, NotesImport, NotesType, IsNodeNoted, IsNodeForgotten};
 
 use crate::ids::NodeId;
+use crate::named::NamedNodes;
 use crate::node::{Node, NodeKind};
 use crate::type_map::TypeMap;
 use std::alloc::{AllocError, Global};
-use wac_types_base::{ItemKind, Names, Type};
+use wac_types_base::{ItemKind, Type};
 
-/// The names of all imports, maybe with some that were taken away, and all definitions by their types.
+/// All imports by their names, and all definitions by their types.
 #[derive(Drop)]
 pub struct Noted {
-    pub imports: Names,
+    pub imports: NamedNodes,
     pub types: TypeMap,
 }
 
 /// What is known of no nodes.
 pub(crate) fn none_noted(alloc: Global) -> Noted {
     Noted {
-        imports: Names::new(alloc),
+        imports: NamedNodes::new(alloc),
         types: TypeMap::new(alloc),
     }
 }
@@ -37,14 +39,42 @@ pub(crate) fn defined_type(node: &Node) -> Option<Type>
     }
 }
 
-/// Adds the name of an import.
-fn note_import(names: &mut Names, node: &Node) -> Result<(), AllocError>
-    ensures { OnOk result (NotesImport names.old node.now names.new) }
+/// Adds a node under a new name.
+fn push_import(imports: &mut NamedNodes, name: &String, id: NodeId) -> Result<(), AllocError>
+    requires { IsNew (string_bytes name.now) imports.old.items }
+    ensures { OnOk result (imports.new.items ≡ imports.old.items ++ (string_bytes name.now, id) ∷ []) }
 {
-    if let NodeKind::Import(name) = node.kind() {
-        let _ = names.insert(name.clone()?)?;
-    }
+    let name = name.clone()?;
+    imports.reserve(1)?;
+    imports.push_reserved(name, id);
     Ok(())
+}
+
+/// Notes an import by its name, where there is memory for it and no other one is noted.
+fn note_import(imports: &mut NamedNodes, node: &Node, id: NodeId) -> bool
+    ensures { result ≡ true → NotesImport imports.old.items node.now id imports.new.items }
+{
+    match node.kind() {
+        NodeKind::Import(name) => {
+            if imports.get(name.as_str()).is_some() {
+                return false;
+            }
+            push_import(imports, name, id).is_ok()
+        }
+        _ => true,
+    }
+}
+
+/// Takes away the name of an import.
+fn forget_import(imports: &mut NamedNodes, node: &Node)
+    ensures { ForgetsImport imports.old.items node.now imports.new.items }
+{
+    let _ = imports.len();
+    if let NodeKind::Import(name) = node.kind() {
+        if let Some(at) = imports.place_of(name.as_str()) {
+            imports.swap_remove(at);
+        }
+    }
 }
 
 /// Notes a definition by its type, where there is memory for it and no other one is noted.
@@ -67,7 +97,7 @@ pub(crate) fn with_node(noted: Option<Noted>, node: &Node, id: NodeId) -> Option
     ensures { IsNodeNoted noted node.now id result }
 {
     let mut noted = noted?;
-    if note_import(&mut noted.imports, node).is_err() {
+    if !note_import(&mut noted.imports, node, id) {
         return None;
     }
     if !note_type(&mut noted.types, node, id) {
@@ -81,6 +111,7 @@ pub(crate) fn without_node(noted: Option<Noted>, node: &Node) -> Option<Noted>
     ensures { IsNodeForgotten noted node.now result }
 {
     let mut noted = noted?;
+    forget_import(&mut noted.imports, node);
     if let Some(ty) = defined_type(node) {
         noted.types.remove(ty);
     }

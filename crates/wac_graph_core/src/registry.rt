@@ -11,6 +11,7 @@ use crate::edge::{Follow, reached};
 use crate::error::RegisterPackageError;
 use crate::graph::CompositionGraph;
 use crate::ids::PackageId;
+use crate::node_set::NodeSet;
 use crate::package::Place;
 use semver::Version;
 use std::alloc::AllocError;
@@ -156,8 +157,9 @@ impl CompositionGraph {
         ensures kept { OnErr result (self.new ≡ self.old) }
     {
         let instances = self.nodes.instances(self.alloc, package)?;
-        let gone = reached(self.edges.as_slice(), Follow::Owned, instances)?;
-        self.remove_nodes(gone.as_slice());
+        let starts = NodeSet::of(self.alloc, instances.as_slice())?;
+        let gone = reached(&self.edges, Follow::Owned, starts)?;
+        self.remove_nodes(&gone);
         give_up(&mut self.places[package.place]);
         Ok(())
     }

@@ -14,7 +14,6 @@ use Rattle.wac_graph_bytes.specs.Typing.{Worlds, Inside, Meaning, space}
 use Rattle.wac_graph_bytes.specs.Meaning.{State}
 use Rattle.wac_graph_core.specs.declared.ids.PackageId.{PackageId}
 use Rattle.wac_graph_core.specs.Graph.{Graph}
-use Rattle.wac_types_parts.specs.declared.called.Called.{Called}
 use Rattle.wac_graph_scopes.specs.declared.imports.ImportScope.{ImportScope}
 use Rattle.wac_graph_scopes.specs.Imports.{WritesWorld}
 use Rattle.wac_types_parts.specs.Parts.{imports_of}
@@ -23,7 +22,7 @@ use Rattle.wac_graph_encode.specs.declared.root.Root.{Root}
 use Rattle.wac_graph_encode.specs.declared.root.Writing.{Writing}
 use Rattle.wac_graph_asks.specs.Outers.{IsOuters}
 use Rattle.wac_graph_encode.specs.declared.declarations.Early.{Early}
-use Rattle.wac_graph_encode.specs.Standing.{IsExported, IsPackageAt, spelled}
+use Rattle.wac_graph_encode.specs.Standing.{IsExported, IsPackageAt, spelled, written_under}
 use Rattle.wac_graph_encode.specs.Ready.{AddsNames, ArePlacedAt}
 use Rattle.wac_graph_encode.specs.Rooting.{IsReadTo, early_in}
 use Rattle.wac_graph_scopes.specs.Roots.{IsEarly}
@@ -38,8 +37,8 @@ use Rattle.wac_graph_encode.proofs.Nesting.{with_nested, nested_reads, nested_ke
 use Rattle.wac_graph_encode.proofs.Importing.{begun_imported}
 use Rattle.wac_graph_encode.proofs.Rooting.{nothing_named, scope_reads}
 
-module _ (g : Graph) (w : Worlds) (ids : List PackageId) (told : AreTold true g w ids) (called : List Called) (i : Inside) (c : Collection) (world : WorldId) (mid new : Root) (empty : mid.packages.entries ≡ [])
-    (early : List (ℕ × Early)) (reads : IsReadTo w c world i early mid) (rooted : IsRooted g w called i mid.nodes.entries early mid.imports.items) (nests : NestsAll g ids mid new) where
+module _ (g : Graph) (w : Worlds) (ids : List PackageId) (told : AreTold true g w ids) (places : List (Name × ℕ)) (i : Inside) (c : Collection) (world : WorldId) (mid new : Root) (empty : mid.packages.entries ≡ [])
+    (early : List (ℕ × Early)) (reads : IsReadTo w c world i early mid) (rooted : IsRooted g w places i mid.nodes.entries early mid.imports.items) (nests : NestsAll g ids mid new) where
   abbrev st : State
   st = at_root i reads.reads.listing
 
@@ -55,7 +54,7 @@ module _ (g : Graph) (w : Worlds) (ids : List PackageId) (told : AreTold true g 
   firsts : ((x : Name × ℕ) → Among x new.exported → value_at g.exports x.0 ≡ Some x.1) × AllZip (IsExported g w true []) new.exported reads.reads.listing
   firsts = early_exports g w i i early (Extends-refl i.here) rooted.are_early true new.exported reads.reads.listing (subst (λ (xs : List (Name × ℕ)). AllZip (IsEarly (early_in early) i) xs reads.reads.listing) (sym nests.others.exported) reads.reads.are)
 
-  pub begun : IsBegun true w i.imports called g new
+  pub begun : IsBegun true w i.imports places g new
   begun = record {
     written = record {
       state = next;
@@ -73,38 +72,38 @@ module _ (g : Graph) (w : Worlds) (ids : List PackageId) (told : AreTold true g 
       noted = λ k m. absurd m;
       instances = tt;
     };
-    outers = λ one p m e. outer_on g w (at_root i []) next [] [] kept (λ j a. a) (λ j a. refl) one.name p
-        (rooted.outers_stand one p m (subst (λ xs. slice_get xs.items one.at ≡ Some (Some p)) nests.others.imports e));
+    outers = λ n p e. outer_on g w (at_root i []) next [] [] kept (λ j a. a) (λ j a. refl) n p
+        (rooted.outers_stand n p (subst (λ xs. written_under places xs.items n ≡ Some p) nests.others.imports e));
   }
 
 -- behind what is taken from a scope
 pub begun_nested : (x : Writing) (scope : ImportScope) (old new : Root) → x.options.now.define_components ≡ true → NestsBehind x.graph.now (names_of x.worlds.now.entries) scope old new
-    → (w : Worlds) (world : WorldId) (imported : List Name) (called : List Called) (h : WritesWorld w x.all.types.now [] world scope imported []) → IsBare old
-    → AreTold x.options.now.define_components x.graph.now w (names_of x.worlds.now.entries) → IsRooted x.graph.now w called h.writing.inside old.nodes.entries old.early.entries scope.places.items → IsBegunWith x w h.writing.inside.imports called new
-begun_nested x scope old new define b w world imported called h bare told rooted =
+    → (w : Worlds) (world : WorldId) (imported : List Name) (places : List (Name × ℕ)) (h : WritesWorld w x.all.types.now [] world scope imported []) → IsBare old
+    → AreTold x.options.now.define_components x.graph.now w (names_of x.worlds.now.entries) → IsRooted x.graph.now w places h.writing.inside old.nodes.entries old.early.entries scope.places.items → IsBegunWith x w h.writing.inside.imports places new
+begun_nested x scope old new define b w world imported places h bare told rooted =
     let g = x.graph.now in
     let c = x.all.types.now in
     let ids = names_of x.worlds.now.entries in
     let imports = h.writing.inside.imports in
-    subst (λ d. IsBegun d w (with_packages d g c x.worlds.now.entries imports) called g new) (sym define)
-    (begun g w ids (subst (λ d. AreTold d g w ids) define told) called h.writing.inside c world b.taken new (ap (λ ps. ps.entries) b.takes.packages ∙ bare.1) old.early.entries
+    subst (λ d. IsBegun d w (with_packages d g c x.worlds.now.entries imports) places g new) (sym define)
+    (begun g w ids (subst (λ d. AreTold d g w ids) define told) places h.writing.inside c world b.taken new (ap (λ ps. ps.entries) b.takes.packages ∙ bare.1) old.early.entries
     (scope_reads scope old b.taken b.takes bare.0 bare.2 w c world imported h (early_sources g w h.writing.inside h.writing.inside old.early.entries (Extends-refl h.writing.inside.here) rooted.are_early))
-    (subst (λ xs. IsRooted g w called h.writing.inside b.taken.nodes.entries old.early.entries xs) (sym b.takes.imports) (subst (λ ns. IsRooted g w called h.writing.inside ns.entries old.early.entries scope.places.items) (sym b.takes.nodes) rooted)) b.nests)
+    (subst (λ xs. IsRooted g w places h.writing.inside b.taken.nodes.entries old.early.entries xs) (sym b.takes.imports) (subst (λ ns. IsRooted g w places h.writing.inside ns.entries old.early.entries scope.places.items) (sym b.takes.nodes) rooted)) b.nests)
 
 pub begins_nested : {U E : Type 0} (x : Writing) (scope : ImportScope) (old new : Root) (r : Result U E) → x.options.now.define_components ≡ true → OnOk r (NestsBehind x.graph.now (names_of x.worlds.now.entries) scope old new) → Begins x scope old new r
-begins_nested x scope old new (Ok u) define n = λ w world imported called h bare worlds told rooted. begun_nested x scope old new define n w world imported called h bare told rooted
-begins_nested x scope old new (Err e) define n = λ w world imported called h bare worlds told rooted. tt
+begins_nested x scope old new (Ok u) define n = λ w world imported places h bare worlds told rooted. begun_nested x scope old new define n w world imported places h bare told rooted
+begins_nested x scope old new (Err e) define n = λ w world imported places h bare worlds told rooted. tt
 
 -- behind what is imported in the scope
 pub begins_imported : {U E : Type 0} (x : Writing) (scope : ImportScope) (old new : Root) (r : Result U E) → x.options.now.define_components ≡ false → OnOk r (ImportsBefore x.graph.now x.all.types.now x.worlds.now.entries scope old new) → Begins x scope old new r
-begins_imported x scope old new (Ok u) define b = λ w world imported called h bare worlds told rooted.
+begins_imported x scope old new (Ok u) define b = λ w world imported places h bare worlds told rooted.
     let g = x.graph.now in
     let c = x.all.types.now in
     let ps = x.worlds.now.entries in
     let i = h.writing.inside in
-    subst (λ d. IsBegun d w (with_packages d g c ps i.imports) called g new) (sym define)
-    (begun_imported g c ps worlds w (subst (λ d. AreTold d g w (names_of ps)) define told) called i (nothing_named i.exports h.writing.exports) scope h.writing.stands old new bare.0 bare.1 bare.2 rooted b)
-begins_imported x scope old new (Err e) define b = λ w world imported called h bare worlds told rooted. tt
+    subst (λ d. IsBegun d w (with_packages d g c ps i.imports) places g new) (sym define)
+    (begun_imported g c ps worlds w (subst (λ d. AreTold d g w (names_of ps)) define told) places i (nothing_named i.exports h.writing.exports) scope h.writing.stands old new bare.0 bare.1 bare.2 rooted b)
+begins_imported x scope old new (Err e) define b = λ w world imported places h bare worlds told rooted. tt
 
 -- ---- what is held
 
@@ -122,11 +121,11 @@ holds_imported x scope old new b = record {
   packages = subst (λ ps. AddsNames (names_of x.worlds.now.entries) (names_of old.packages.entries) (names_of ps.entries)) (sym b.takes.packages) b.held;
 }
 
--- of all imports something is written, so each that is called has its place
-pub calls_placed : (w : Worlds) (g : Graph) (c : Collection) (world : WorldId) (called : List Called) → IsOuters g c world called → (scope : ImportScope) (imported : List Name) → WritesWorld w c [] world scope imported []
-    → ((n : Name) → Among n (names_of (imports_of c world)) → Among n imported) → ArePlacedAt scope.places.items called
-calls_placed w g c world called is scope imported h all one m =
-    let k = is.called_there one m in
-    let n : Name = spelled g one.name in
-    let at : slice_get (names_of (imports_of c world)) one.at ≡ Some n = map-get (λ (x : Name × ItemKind). x.0) (imports_of c world) one.at (n, k.0) k.1 in
-    h.have one.at n at (all n (among-get (names_of (imports_of c world)) one.at n at))
+-- of all imports something is written, so it is at each place
+pub all_placed : (w : Worlds) (g : Graph) (c : Collection) (world : WorldId) (places : List (Name × ℕ)) → IsOuters g c world places → (scope : ImportScope) (imported : List Name) → WritesWorld w c [] world scope imported []
+    → ((n : Name) → Among n (names_of (imports_of c world)) → Among n imported) → ArePlacedAt scope.places.items places
+all_placed w g c world places is scope imported h all n at v =
+    let k = is.placed n at v in
+    let m : Name = spelled g n in
+    let named : slice_get (names_of (imports_of c world)) at ≡ Some m = map-get (λ (x : Name × ItemKind). x.0) (imports_of c world) at (m, k.0) k.1 in
+    h.have at m named (all m (among-get (names_of (imports_of c world)) at m named))

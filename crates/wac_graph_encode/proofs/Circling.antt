@@ -6,7 +6,7 @@ use Rattle.wac_types_base.specs.declared.ids.WorldId.{WorldId}
 use Rattle.wac_types_base.specs.declared.item.ItemKind.{ItemKind}
 use Rattle.wac_types_base.specs.declared.item.«Type».{«Type» as TypeKind}
 use Rattle.wac_types_base.specs.Record.{Collection}
-use Rattle.wac_types_base.specs.Collection.{Stands, IsAcyclic, Grows}
+use Rattle.wac_types_base.specs.Collection.{IsAcyclic, Grows}
 use Rattle.wac_types_base.specs.Entries.{Name, names_of}
 use Rattle.wac_types_base.specs.Graph.{Among}
 use Rattle.wac_types_base.specs.Stated.{Stated, stated_in, stated_of, stated_world, kind_of}
@@ -14,7 +14,7 @@ use Rattle.wac_types_written.specs.Written.{written_definition}
 use Rattle.wac_graph_core.specs.declared.ids.PackageId.{PackageId}
 use Rattle.wac_graph_core.specs.Graph.{Graph, IsGraph, package_of}
 use Rattle.wac_composition.specs.Asks.{asks_of}
-use Rattle.wac_composition.specs.Circles.{written_inside, written_whole, written_package}
+use Rattle.wac_composition.specs.Circles.{written_whole, written_package}
 use Rattle.wac_composition.specs.Classes.{spelling}
 use Rattle.wac_composition.specs.Conflicts.{dependencies_of, is_whole, outers_written, whole_forms}
 use Rattle.wac_graph_asks.specs.declared.asks.Asked.{Asked}
@@ -82,8 +82,8 @@ packages_stand g a o h p m = (h.worlds p.0 p.1 m).copy.stands
 
 module _ (g : Graph) (sound : IsGraph g) (acyclic : IsAcyclic g.types) (a : Asked) (o : Outers) (h : IsPrepared g a o) where
   module _ (options : EncodeOptions) (c : Collection) (grows : Grows a.types c) (ds : List Definition) (formed : AreFormed g.types c a.definitions.items ds) where
-    held : AreOuters (asks_of (composition_of g)) c o.world o.called.items
-    held = outers_stay (asks_of (composition_of g)) a.types c h.acyclic grows o.world o.called.items h.outers
+    held : AreOuters (asks_of (composition_of g)) c o.world o.places
+    held = outers_stay (asks_of (composition_of g)) a.types c h.acyclic grows o.world o.places h.outers
 
     unless_defined : (define : Bool) → imported_packages define g c a.packages.entries ≡ dependencies_of define (composition_of g)
     unless_defined true = refl

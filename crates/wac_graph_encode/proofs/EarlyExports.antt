@@ -1,7 +1,7 @@
 -- Definitions that are exported where they are written, as exports of the graph.
 use Rattle.std.specs.List.{AllZip}
 use Rattle.std.specs.Map.{lookup}
-use Rattle.std.specs.Prelude.{nat_eq, option_map, slice_get}
+use Rattle.std.specs.Prelude.{nat_eq, option_map}
 use Rattle.std.proofs.Common.{◌≡◌, ℕ, Bool, List, [], ◌∷◌, Option, Some, None, inl, inr, refl, sym, ap, subst, ◌∙◌}
 use Rattle.std.proofs.lemmas.Option.{none-some, same_Some}
 use Rattle.wac_types_base.specs.Entries.{Name, value_at}
@@ -17,7 +17,7 @@ use Rattle.wac_types_fit.specs.Trees.{tree_in}
 use Rattle.wac_types_fit.proofs.Unfolded.{type_value}
 use Rattle.wac_graph_bytes.specs.declared.value.ValueType.TheVariants.{Index}
 use Rattle.wac_graph_bytes.specs.declared.value.Sort.TheVariants as sort
-use Rattle.wac_graph_bytes.specs.Typing.{Worlds, Meaning, Scope, Inside, item_of, type_in, type_at, value_of}
+use Rattle.wac_graph_bytes.specs.Typing.{Worlds, Scope, Inside, item_of, type_in, type_at, value_of}
 use Rattle.wac_graph_bytes.specs.Wirings.{Source}
 use Rattle.wac_graph_bytes.specs.Meaning.{source_of}
 use Rattle.wac_graph_core.specs.Graph.{Graph}

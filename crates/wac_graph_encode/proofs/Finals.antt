@@ -1,8 +1,8 @@
 -- The types of nodes at last.
-use Rattle.std.proofs.Common.{◌≡◌, ◌<◌, arith, ℕ, zero, suc, true, true≢false, List, [], ◌∷◌, map, length, Option, Some, None, IsSome, is_some, slice_get, inl, inr, refl, sym, ap, subst, ◌∙◌}
+use Rattle.std.proofs.Common.{◌≡◌, ◌<◌, arith, ℕ, zero, suc, true, true≢false, List, length, Option, Some, None, is_some, slice_get, inl, inr, refl, sym, ap, subst, ◌∙◌}
 use Rattle.std.specs.Map.{lookup}
 use Rattle.std.proofs.lemmas.Option.{none-some, same_Some}
-use Rattle.std.specs.Prelude.{Result, Ok, Err, IfOk, option_map, unwrap_or}
+use Rattle.std.specs.Prelude.{Result, Ok, Err, IfOk, option_and_then, option_map, unwrap_or}
 use Rattle.wac_types_base.specs.declared.item.ItemKind.{ItemKind}
 use Rattle.wac_types_base.specs.declared.item.«Type».{«Type» as TypeKind}
 use Rattle.wac_types_base.specs.declared.ids.InterfaceId.{InterfaceId}
@@ -28,7 +28,6 @@ use Rattle.wac_graph_core.specs.contracts.ids.NodeIdPartialEq.TheImpl as node
 use Rattle.wac_graph_core.specs.Nodes.{NodeData, Role, imported_as}
 use Rattle.wac_graph_core.specs.Graph.{GivesExport, Graph, IsGraph, is_instance, node_at}
 use Rattle.wac_types_parts.specs.Parts.{exports_of as exports_in, imports_of}
-use Rattle.wac_types_parts.specs.declared.called.Called.{Called}
 use Rattle.wac_types_parts.proofs.PartLaws.{exports_there}
 use Rattle.wac_graph_scopes.proofs.WritingLaws.{value_here}
 use Rattle.wac_composition.specs.Classes.{is_instance_kind as one_of}
@@ -38,12 +37,14 @@ use Rattle.wac_composition.specs.Worlds.{final_type, then_in}
 use Rattle.wac_graph_asks.specs.declared.asks.Definition.{Definition}
 use Rattle.wac_graph_asks.specs.declared.outers.Outers.{Outers}
 use Rattle.wac_graph_asks.specs.Graphs.{composition_of, item_at, item_of, origin_at, origin_by, origin_of, origin_within}
+use Rattle.wac_graph_asks.specs.Outers.{IsOuters}
 use Rattle.wac_graph_asks.specs.Reads.{import_name_of}
+use Rattle.wac_graph_asks.proofs.Lasting.{outers_stay}
 use Rattle.wac_graph_asks.proofs.Origins.{origin_alias, origin_role}
 use Rattle.wac_graph_encode.specs.declared.world.Finals.{Finals}
 use Rattle.wac_graph_encode.specs.Formed.{HasForm}
 use Rattle.wac_graph_encode.specs.Standing.{spelled}
-use Rattle.wac_graph_encode.specs.Worlds.{AreCalledTypes, AreDefinitionTypes, HasOwnType, IsFinal, IsToHandOut, KnowsFinals, TellsCopied, TellsExported, TellsFinal, exported_at, final_at}
+use Rattle.wac_graph_encode.specs.Worlds.{AreDefinitionTypes, HasOwnType, IsFinal, IsToHandOut, KnowsFinals, TellsCopied, TellsExported, TellsFinal, exported_at, final_at, outer_type}
 use Rattle.wac_graph_encode.proofs.Entries.{found_among, none_among, same_node}
 use Rattle.wac_graph_encode.proofs.FormKinds.{own_form}
 use Rattle.wac_graph_encode.proofs.ItemSorts.{import_there}
@@ -57,7 +58,7 @@ pub steps : Origin ℕ → ℕ
 steps (imported n) = zero
 steps (instance k) = zero
 steps (projected o n) = suc (steps o)
-steps (defined x) = zero
+steps (defined n x) = zero
 
 -- ---- what fits an instance is one
 
@@ -148,18 +149,39 @@ module _ (g : Graph) (sound : IsGraph g) (finite_types : IsAcyclic g.types) (c :
       by_export None is = inl (at ∙ ap (option_map (stated_of c)) is)
       by_export (Some m) is = record { stands = stands m is; states = at ∙ ap (option_map (stated_of c)) is; fits = λ x there own. fits_there m is x there }
 
--- ---- imports and definitions
+-- ---- outer imports
 
-module _ (g : Graph) (sound : IsGraph g) (finite_types : IsAcyclic g.types) (c : Collection) (f : Finals) (knows : KnowsFinals g c f) where
-  pub import_told : (k : ℕ) (n : Name) → import_name_of (node_at g k) ≡ Some n → TellsFinal g c k (value_at f.outers n)
+module _ (g : Graph) (sound : IsGraph g) (finite_types : IsAcyclic g.types) (c : Collection) (acyclic : IsAcyclic c) (o : Outers) (is : IsOuters g c o.world o.places) where
+  abbrev outer_fields : List (Name × ItemKind)
+  outer_fields = imports_of c o.world
+
+  import_final : (k : ℕ) (x : NodeData) (n : Name) (item : ItemKind) → node_at g k ≡ Some x → x.role ≡ Role.Imported n → value_at outer_fields (spelled g n) ≡ Some item → IsFinal g c k item
+  import_final k x n item there role at = record {
+    stands = import_there c acyclic o.world is.stands (spelled g n) item at;
+    states =
+        ap (final_type (asks_of (composition_of g))) (origin_role g sound finite_types k x (Role.Imported n) there role)
+        ∙ ap (λ es. value_at es (spelled g n)) (sym is.imports) ∙ value_with (stated_of c) outer_fields (spelled g n) ∙ ap (option_map (stated_of c)) at;
+    fits = λ y at_node one. import_fits g sound finite_types c acyclic o.world o.places is k y n item at_node (ap (λ (z : NodeData). z.role) (same_Some _ _ (sym at_node ∙ there)) ∙ role) at;
+  }
+
+  outer_final : (k : ℕ) (x : NodeData) (n : Name) → node_at g k ≡ Some x → x.role ≡ Role.Imported n → TellsFinal g c k (outer_type c o n)
+  outer_final k x n there role =
+      let asked = is.named (ask_at g sound finite_types c acyclic o.world o.places is k x n) (asked_there g sound finite_types c acyclic o.world o.places is k x n there role) in
+      let at = value_of (value_at o.places n) asked in
+      let import = is.placed n at.0 at.1 in
+      let type : outer_type c o n ≡ Some import.0 = ap (option_and_then (λ i. option_map (λ (e : Name × ItemKind). e.1) (slice_get outer_fields i))) at.1 ∙ ap (option_map (λ (e : Name × ItemKind). e.1)) import.1 in
+      subst (TellsFinal g c k) (sym type) (import_final k x n import.0 there role (value_here outer_fields at.0 (spelled g n) import.0 is.distinct import.1))
+
+  pub import_told : (k : ℕ) (n : Name) → import_name_of (node_at g k) ≡ Some n → TellsFinal g c k (outer_type c o n)
   import_told k n e = go (node_at g k) refl e
     where
-      go : (o : Option NodeData) → node_at g k ≡ o → import_name_of o ≡ Some n → TellsFinal g c k (value_at f.outers n)
-      go None at is = absurd (none-some _ is)
-      go (Some x) at is =
-          let t = knows.outers k x n at (imported_role x.role n is) in
-          subst (TellsFinal g c k) (sym t.1) t.2
+      go : (y : Option NodeData) → node_at g k ≡ y → import_name_of y ≡ Some n → TellsFinal g c k (outer_type c o n)
+      go None at named = absurd (none-some _ named)
+      go (Some x) at named = outer_final k x n at (imported_role x.role n named)
 
+-- ---- definitions
+
+module _ (g : Graph) (sound : IsGraph g) (finite_types : IsAcyclic g.types) (c : Collection) (f : Finals) (knows : KnowsFinals g c f) where
   abbrev origin_by_role : ℕ → Role → NodeData → Origin ℕ
   origin_by_role = origin_by g (origin_within g (length g.edges))
 
@@ -182,40 +204,7 @@ module _ (g : Graph) (sound : IsGraph g) (finite_types : IsAcyclic g.types) (c :
 
 -- ---- what is known of them
 
-named_one : (called : List Called) (n : Name) → Among n (map (λ (x : Called). x.name) called) → (one : Called) × Among one called × (one.name ≡ n)
-named_one [] n m = absurd m
-named_one (x ∷ xs) n (inl e) = (x, inl refl, sym e)
-named_one (x ∷ xs) n (inr m) = let r = named_one xs n m in (r.0, inr r.1, r.2)
-
 module _ (g : Graph) (sound : IsGraph g) (finite_types : IsAcyclic g.types) (c : Collection) (acyclic : IsAcyclic c) (o : Outers) (xs : List Definition) (h : IsToHandOut g c o xs) where
-  abbrev outer_fields : List (Name × ItemKind)
-  outer_fields = imports_of c o.world
-
-  -- the type of the outer import that the name calls
-  called_import : (one : Called) → Among one o.called.items → (m : Name) (item : ItemKind) → slice_get outer_fields one.at ≡ Some (m, item) → value_at outer_fields (spelled g one.name) ≡ Some item
-  called_import one among m item at =
-      let call = h.outers.called_there one among in
-      let same : (spelled g one.name, call.0) ≡ (m, item) = same_Some _ _ (sym call.1 ∙ at) in
-      value_here outer_fields one.at (spelled g one.name) call.0 h.outers.distinct call.1 ∙ ap (λ (p : Name × ItemKind). Some p.1) same
-
-  import_final : (k : ℕ) (x : NodeData) (n : Name) (item : ItemKind) → node_at g k ≡ Some x → x.role ≡ Role.Imported n → value_at outer_fields (spelled g n) ≡ Some item → IsFinal g c k item
-  import_final k x n item there role at = record {
-    stands = import_there c acyclic o.world h.outers.stands (spelled g n) item at;
-    states =
-        ap (final_type (asks_of (composition_of g))) (origin_role g sound finite_types k x (Role.Imported n) there role)
-        ∙ ap (λ es. value_at es (spelled g n)) (sym h.outers.imports) ∙ value_with (stated_of c) outer_fields (spelled g n) ∙ ap (option_map (stated_of c)) at;
-    fits = λ y is one. import_fits g sound finite_types c acyclic o.world o.called.items h.outers k y n item is (ap (λ (z : NodeData). z.role) (same_Some _ _ (sym is ∙ there)) ∙ role) at;
-  }
-
-  outers_known : (es : List (Name × ItemKind)) → AreCalledTypes c o.world o.called.items es → (k : ℕ) (x : NodeData) (n : Name) → node_at g k ≡ Some x → x.role ≡ Role.Imported n → (item : ItemKind) × (value_at es n ≡ Some item) × IsFinal g c k item
-  outers_known es are k x n there role =
-      let one = named_one o.called.items n (h.outers.named (ask_at g sound finite_types c acyclic o.world o.called.items h.outers k x n) (asked_there g sound finite_types c acyclic o.world o.called.items h.outers k x n there role)) in
-      let call = h.outers.called_there one.0 one.1 in
-      let there_ : IsSome (value_at es n) = subst (λ m. IsSome (value_at es m)) one.2 (are.all one.0 one.1 (ap is_some call.1)) in
-      let v = value_of (value_at es n) there_ in
-      let t = are.sound n v.0 v.1 in
-      (v.0, v.1, import_final k x n v.0 there role (ap (λ m. value_at outer_fields (spelled g m)) (sym t.2) ∙ called_import t.0 t.1 t.3 v.0 t.4))
-
   -- a node that is defined has the type as which it is written
   defined_final : (d : Definition) → Among d xs → final_at g d.node ≡ Some (written_definition (stated_of g.types (ItemKind.Ty d.ty)))
   defined_final d m =
@@ -252,9 +241,9 @@ module _ (g : Graph) (sound : IsGraph g) (finite_types : IsAcyclic g.types) (c :
           let t = (sound.nodes d.node n.node n.there).defined n.role in
           inr (n.node, n.there, ap is_instance t.is, defined_final d m ∙ ap Some (own_form g.types finite_types d.ty f.1 f.0 ∙ sym n.states))
 
-  pub finals_known : (f : Finals) → AreCalledTypes c o.world o.called.items f.outers → AreDefinitionTypes xs f.definitions.entries → KnowsFinals g c f
-  finals_known f called defined_ = record {
-    outers = outers_known f.outers called;
+  pub finals_known : (f : Finals) → f.outers.now ≡ o → AreDefinitionTypes xs f.definitions.entries → KnowsFinals g c f
+  finals_known f same defined_ = record {
+    outers = subst (λ (p : Outers). IsOuters g c p.world p.places) (sym same) h.outers;
     definitions = definitions_known f.definitions.entries defined_;
     others = others_known f.definitions.entries defined_;
   }
@@ -271,9 +260,9 @@ final_kept g c d grows k item f =
       fits = λ x there one. subst (λ s. Fits (tree s) (tree_in g.types x.item_kind)) (sym same) (f.fits x there one);
     }
 
-pub finals_kept : (g : Graph) (c d : Collection) → Grows c d → (f : Finals) → KnowsFinals g c f → KnowsFinals g d f
-finals_kept g c d grows f k = record {
-  outers = λ j x n there role. let t = k.outers j x n there role in (t.0, t.1, final_kept g c d grows j t.0 t.2);
+pub finals_kept : (g : Graph) (c d : Collection) → IsAcyclic c → Grows c d → (f : Finals) → KnowsFinals g c f → KnowsFinals g d f
+finals_kept g c d acyclic grows f k = record {
+  outers = outers_stay (asks_of (composition_of g)) c d acyclic grows f.outers.now.world f.outers.now.places k.outers;
   definitions = λ j item m. final_kept g c d grows j item (k.definitions j item m);
   others = k.others;
 }

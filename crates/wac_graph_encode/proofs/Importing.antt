@@ -21,7 +21,6 @@ use Rattle.wac_graph_bytes.specs.Meaning.{State}
 use Rattle.wac_graph_core.specs.declared.ids.PackageId.{PackageId}
 use Rattle.wac_graph_core.specs.contracts.ids.PackageIdPartialEq.TheImpl as package_id
 use Rattle.wac_graph_core.specs.Graph.{Graph}
-use Rattle.wac_types_parts.specs.declared.called.Called.{Called}
 use Rattle.wac_graph_scopes.specs.declared.imports.ImportScope.{ImportScope}
 use Rattle.wac_graph_scopes.specs.declared.imports.SortIndex.{SortIndex}
 use Rattle.wac_graph_scopes.specs.declared.items.ItemScope.{ItemScope}
@@ -33,7 +32,7 @@ use Rattle.wac_graph_causes.specs.Alike.{dependency_of}
 use Rattle.wac_graph_causes.proofs.Dependencies.{name_is}
 use Rattle.wac_graph_encode.specs.declared.declarations.Early.{Early}
 use Rattle.wac_graph_encode.specs.declared.root.Root.{Root}
-use Rattle.wac_graph_encode.specs.Standing.{IsPackageAt}
+use Rattle.wac_graph_encode.specs.Standing.{IsPackageAt, written_under}
 use Rattle.wac_graph_encode.specs.Writing.{IsBegun}
 use Rattle.wac_graph_encode.specs.Rooting.{early_in}
 use Rattle.wac_graph_encode.specs.Beginning.{AreTold, IsRooted}
@@ -148,9 +147,9 @@ importing_all g c all rest old before new after e h none are w i s =
 
 -- ---- what is imported is read
 
-module _ (g : Graph) (c : Collection) (ps : Packages) (are : AreWorldsOf g c ps) (w : Worlds) (told : AreTold false g w (names_of ps)) (called : List Called) (i : Inside) (nothing : i.exports ≡ [])
+module _ (g : Graph) (c : Collection) (ps : Packages) (are : AreWorldsOf g c ps) (w : Worlds) (told : AreTold false g w (names_of ps)) (places : List (Name × ℕ)) (i : Inside) (nothing : i.exports ≡ [])
     (scope : ImportScope) (stands : IsItemScope w c [] i scope.scope) (old new : Root) (none : old.entries.items ≡ []) (empty : old.packages.entries ≡ []) (unsaid : old.exported ≡ [])
-    (rooted : IsRooted g w called i old.nodes.entries old.early.entries scope.places.items) (b : ImportsBefore g c ps scope old new) where
+    (rooted : IsRooted g w places i old.nodes.entries old.early.entries scope.places.items) (b : ImportsBefore g c ps scope old new) where
   abbrev all : HasImportedAll w g c i ps b.between.scope b.mid.packages.entries
   all = b.imported empty are w i stands
 
@@ -186,7 +185,7 @@ module _ (g : Graph) (c : Collection) (ps : Packages) (are : AreWorldsOf g c ps)
         world = t.world;
       }
 
-  pub begun_imported : IsBegun false w (i.imports ++ map (dependency_import g c) ps) called g new
+  pub begun_imported : IsBegun false w (i.imports ++ map (dependency_import g c) ps) places g new
   begun_imported =
       let firsts = early_exports g w i all.after old.early.entries all.extends rooted.are_early false new.exported read.0.listing
       (subst (λ (es : List (ℕ × Early)). AllZip (IsEarly (early_in es) all.after) new.exported read.0.listing) early_is read.0.are) in
@@ -207,6 +206,6 @@ module _ (g : Graph) (c : Collection) (ps : Packages) (are : AreWorldsOf g c ps)
           noted = λ k m. absurd m;
           instances = tt;
         };
-        outers = λ one p m e. outer_on g w st next [] [] kept (λ j a. a) (λ j a. refl) one.name p
-            (rooted.outers_stand one p m (subst (λ xs. slice_get xs one.at ≡ Some (Some p)) (b.takes.imports ∙ ap (λ v. v.items) b.places) e));
+        outers = λ n p e. outer_on g w st next [] [] kept (λ j a. a) (λ j a. refl) n p
+            (rooted.outers_stand n p (subst (λ xs. written_under places xs n ≡ Some p) (b.takes.imports ∙ ap (λ v. v.items) b.places) e));
       }

@@ -38,3 +38,15 @@ pub mod CoreRefused
 pub mod StockLaws
 pub mod SmallerInterfaces
 pub mod RefusedInstances
+pub mod TwoOrders
+pub mod ImportPlaces
+pub mod Splits
+pub mod PlainOrders
+pub mod RefusedImports
+pub mod AcceptedImports
+pub mod OutersFound
+pub mod UsedParts
+pub mod UsesAsked
+pub mod UsesKept
+pub mod FittingGives
+pub mod RootGives

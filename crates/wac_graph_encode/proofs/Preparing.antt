@@ -118,7 +118,7 @@ module _ (g : Graph) (a : Asked) (o : Outers) (h : IsPrepared g a o) where
       worlds id w m = world_kept g a.types new.types grows id w (h.worlds id w (subst (λ ps. Among (id, w) ps.entries) packages m))
 
       pub there : IsThere g new o definitions.items
-      there = (outers_stay _ a.types new.types h.acyclic grows o.world o.called.items h.outers, worlds, to_write new.types definitions.items formed)
+      there = (outers_stay _ a.types new.types h.acyclic grows o.world o.places h.outers, worlds, to_write new.types definitions.items formed)
 
       module _ (bytes : Vec ℕ Global) (means : MeansAsked {E = BytesError} g new o definitions.items options (Ok bytes)) (nests : NestsSo {E = BytesError} options.define_components g ids (Ok bytes)) where
         composed : (d : Bool) → options.define_components ≡ d → AreToImport d g ids → IsComposed d g bytes.items
@@ -155,7 +155,7 @@ module _ (g : Graph) (a : Asked) (o : Outers) (h : IsPrepared g a o) where
     -- all is there of which the world is made
     pub to_hand_out : (new : Collection) (definitions : List Definition) → Grows a.types new → AreFormed g.types new a.definitions.items definitions → IsToHandOut g new o definitions
     to_hand_out new definitions grows formed = record {
-      outers = outers_stay _ a.types new h.acyclic grows o.world o.called.items h.outers;
+      outers = outers_stay _ a.types new h.acyclic grows o.world o.places h.outers;
       definitions = to_write new definitions formed;
       all = all_defined new definitions formed;
     }
@@ -164,7 +164,7 @@ module _ (g : Graph) (a : Asked) (o : Outers) (h : IsPrepared g a o) where
 pub held_prepared : (g : Graph) (a : Asked) (o : Outers) → IsPrepared g a o → (new : Asked) → Grows a.types new.types → new.packages ≡ a.packages → AreHeld g new o
 held_prepared g a o h new grows packages = record {
   packages = ap (λ p. names_of p.entries) packages ∙ h.packages;
-  imports = outers_stay _ a.types new.types h.acyclic grows o.world o.called.items h.outers;
+  imports = outers_stay _ a.types new.types h.acyclic grows o.world o.places h.outers;
 }
 
 pub prepared : (g : Graph) (old new : Asked) (o : Outers) → IsAsked g old → KeepsAsked old new → AnswersOuters old new o → IsPrepared g new o

@@ -1,13 +1,14 @@
 -- What a node needs stands before it is written.
-use Rattle.std.specs.Prelude.{is_some, option_map, slice_get, take}
-use Rattle.std.specs.Cmp.Lexicographic.{pointwise, same_text}
+use Rattle.std.specs.Prelude.{is_some, option_and_then, option_map, slice_get, take}
+use Rattle.std.specs.Cmp.Lexicographic.{pointwise}
 use Rattle.std.specs.FinMap as finite
 use Rattle.std.proofs.Common.{◌≡◌, ◌==◌, ◌⊎◌, ◌+◌, ◌≤◌, ℕ, Bool, true, false, true≢false, if◌then◌else◌, List, [], ◌∷◌, ◌++◌, Option, Some, None, IsSome, IsTrue, ◌↔◌, Result, Ok, Err, OnOk, map, append_assoc, inl, inr, refl, sym, ap, subst, ◌∙◌}
 use Rattle.std.proofs.lemmas.List.{append-nil}
 use Rattle.indexmap.specs.IndexMap.{insert_entry}
 use Rattle.wac_types_base.specs.declared.ids.WorldId.{WorldId}
 use Rattle.wac_types_base.specs.declared.item.ItemKind.{ItemKind}
-use Rattle.wac_types_base.specs.Entries.{Name, names_of, put_entry, value_at, values_of}
+use Rattle.wac_types_base.proofs.GraphLemmas.{value_of}
+use Rattle.wac_types_base.specs.Entries.{Name, names_of, value_at, values_of}
 use Rattle.wac_types_base.specs.Graph.{Among}
 use Rattle.wac_types_base.proofs.Adding.{Among-left, Among-right}
 use Rattle.wac_types_base.proofs.Loops.{map-one_more}
@@ -20,41 +21,22 @@ use Rattle.wac_graph_core.specs.declared.edge.Edge.{Edge}
 use Rattle.wac_graph_core.specs.Nodes.{NodeData, Role, imported_as}
 use Rattle.wac_graph_core.specs.Edges.{AreKeyed, HasAlias, HasArgument, alias_edge, argument_edge}
 use Rattle.wac_graph_core.specs.Walking.{first_argument}
-use Rattle.wac_graph_core.specs.Graph.{Graph, IsGraph, ContainsNode, ContainsPackage, instantiated, node_at, package_if, package_made, package_of}
+use Rattle.wac_graph_core.specs.Graph.{Graph, IsGraph, ContainsNode, instantiated, node_at, package_if, package_made, package_of}
 use Rattle.wac_graph_core.proofs.Found.{argument_found, no_argument}
-use Rattle.wac_types_parts.specs.declared.called.Called.{Called}
 use Rattle.wac_graph_scopes.specs.Items.{sort_of}
 use Rattle.wac_types_parts.specs.Parts.{imports_of}
 use Rattle.wac_graph_asks.specs.Reads.{AreArguments, import_name_of, is_defined, is_definition, package_id_of}
 use Rattle.wac_graph_asks.proofs.ByNode.{entry_there}
-use Rattle.wac_graph_causes.specs.Unwritable.{is_value_at, is_value_in, is_value_item}
-use Rattle.wac_graph_encode.specs.declared.root.Root.{Root}
+use Rattle.wac_graph_causes.specs.Unwritable.{is_value_in, is_value_item}
 use Rattle.wac_graph_encode.specs.declared.instances.Wired.{Wired}
-use Rattle.wac_graph_encode.specs.Writing.{AddsNeeded, IsNeeded, IsSameRoot, KeepsNodes, noted}
-use Rattle.wac_graph_encode.specs.Ready.{AddsNames, AddsSource, AllStand, AreThere, CanBeAlias, CanBePassed, HasNeeded, IsProvided, IsReady, IsReadyWith, IsUnsorted, NeededStand, StandsBy, called_names}
+use Rattle.wac_graph_scopes.specs.declared.imports.SortIndex.{SortIndex}
+use Rattle.wac_graph_encode.specs.Standing.{written_under}
+use Rattle.wac_graph_encode.specs.Writing.{AddsNeeded, IsNeeded, IsSameRoot, KeepsNodes, noted, outer_of}
+use Rattle.wac_graph_encode.specs.Ready.{AddsNames, AddsSource, AllStand, ArePlacedAt, AreThere, CanBeAlias, CanBePassed, HasNeeded, HasPlace, IsPlacedAt, IsProvided, IsReady, IsUnsorted, NeededStand, StandsBy}
 use Rattle.wac_graph_encode.proofs.Depths.{above_all, above_most, depth_of, depths_rise}
 use Rattle.wac_graph_encode.proofs.WritingLaws.{names_among, needed_below}
 
 -- ---- names that are looked up
-
--- what is put under a name has it
-put_named : {T : Type 0} (es : List (Name × T)) (n : Name) (v : T) (m : Name) → Among m (names_of es) ⊎ (m ≡ n) → Among m (names_of (put_entry es n v))
-put_named [] n v m (inl none) = absurd none
-put_named [] n v m (inr e) = inl e
-put_named (x ∷ es) n v m h = go (pointwise ◌==◌ n x.0) refl h (put_named es n v m)
-  where
-    go : (b : Bool) → pointwise ◌==◌ n x.0 ≡ b → Among m (names_of (x ∷ es)) ⊎ (m ≡ n) → (Among m (names_of es) ⊎ (m ≡ n) → Among m (names_of (put_entry es n v)))
-        → Among m (names_of (if b then (x.0, v) ∷ es else x ∷ put_entry es n v))
-    go true q (inl there) rest = there
-    go true q (inr e) rest = inl (e ∙ same_text n x.0 (sym q))
-    go false q (inl (inl first)) rest = inl first
-    go false q (inl (inr there)) rest = inr (rest (inl there))
-    go false q (inr e) rest = inr (rest (inr e))
-
-pub names_put : {T : Type 0} (old new : List (Name × T)) (n : Name) (v : T) → new ≡ put_entry old n v → AddsNames (n ∷ []) (names_of old) (names_of new)
-names_put old new n v is m (inl there) = subst (λ es. Among m (names_of es)) (sym is) (put_named old n v m (inl there))
-names_put old new n v is m (inr (inl e)) = subst (λ es. Among m (names_of es)) (sym is) (put_named old n v m (inr e))
-names_put old new n v is m (inr (inr none)) = absurd none
 
 -- ---- lists that are added, one after another
 
@@ -164,9 +146,9 @@ has_needed g keyed k bound are old mid new args source j (inr x) = source j (inr
 
 -- ---- what stands is kept
 
-pub provided_more : (g : Graph) (names more : List Name) (ids held : List PackageId) (nodes kept : List ℕ) → ((n : Name) → Among n names → Among n more) → ((id : PackageId) → Among id ids → Among id held) → ((k : ℕ) → Among k nodes → Among k kept)
-    → IsProvided g names ids nodes → IsProvided g more held kept
-provided_more g names more ids held nodes kept a b c p = record {
+pub provided_more : (g : Graph) (stands more : Name → Type 0) (ids held : List PackageId) (nodes kept : List ℕ) → ((n : Name) → stands n → more n) → ((id : PackageId) → Among id ids → Among id held) → ((k : ℕ) → Among k nodes → Among k kept)
+    → IsProvided g stands ids nodes → IsProvided g more held kept
+provided_more g stands more ids held nodes kept a b c p = record {
   imports = λ k n e. a n (p.imports k n e);
   unbound = λ k of n made there none. a n (p.unbound k of n made there none);
   packages = λ k id e. b id (p.packages k id e);
@@ -174,15 +156,35 @@ provided_more g names more ids held nodes kept a b c p = record {
   values = p.values;
 }
 
+-- what is written under a name stands at its place
+pub placed_some : (places : List (Name × ℕ)) (imports : List (Option SortIndex)) (n : Name) (at : ℕ) → value_at places n ≡ Some at → IsSome (written_under places imports n) → IsPlacedAt imports at
+placed_some places imports n at e there =
+    by (slice_get imports at) refl (sym (ap (λ (o : Option ℕ). is_some (option_and_then (λ k. option_and_then (λ q. q) (slice_get imports k)) o)) e) ∙ there)
+  where
+    by : (o : Option (Option SortIndex)) → slice_get imports at ≡ o → is_some (option_and_then (λ q. q) o) ≡ true → IsPlacedAt imports at
+    by None q s = absurd (true≢false (sym s))
+    by (Some None) q s = absurd (true≢false (sym s))
+    by (Some (Some p)) q s = (p, q)
+
+-- something is written at the place of each name
+pub written_there : (places : List (Name × ℕ)) (imports : List (Option SortIndex)) → ArePlacedAt imports places → (n : Name) → HasPlace places n → IsSome (written_under places imports n)
+written_there places imports placed n there =
+    let at = value_of (value_at places n) there in
+    let p = placed n at.0 at.1 in
+    ap (λ (o : Option ℕ). is_some (option_and_then (λ k. option_and_then (λ q. q) (slice_get imports k)) o)) at.1 ∙ ap (λ (o : Option (Option SortIndex)). is_some (option_and_then (λ q. q) o)) p.1
+
 pub nodes_kept : (old new : Wired) → KeepsNodes old new → (k : ℕ) → Among k (names_of (noted old)) → Among k (names_of (noted new))
 nodes_kept old new keeps k m = let p = names_among (noted old) k m in name-among (noted new) k p.0 (keeps.kept k p.0 p.1)
+
+same_outer : (old new : Wired) → IsSameRoot old new → (n : Name) → is_some (outer_of new n) ≡ is_some (outer_of old n)
+same_outer old new same n = λ j. is_some (written_under (same.places j).now (same.imports j).items n)
 
 pub ready_kept : (old new : Wired) → KeepsNodes old new → IsReady old → IsReady new
 ready_kept old new keeps ready =
     let g : new.graph.now ≡ old.graph.now = ap (λ r. r.now) keeps.same.graph in
-    subst (λ h. IsProvided h (names_of new.outers) (names_of new.root.packages.entries) (names_of (noted new))) (sym g)
-    (provided_more old.graph.now (names_of old.outers) (names_of new.outers) (names_of old.root.packages.entries) (names_of new.root.packages.entries) (names_of (noted old)) (names_of (noted new))
-    (λ n m. subst (λ es. Among n (names_of es)) (sym keeps.same.outers) m) (λ id m. subst (λ ps. Among id (names_of ps.entries)) (sym keeps.same.packages) m) (nodes_kept old new keeps) ready)
+    subst (λ h. IsProvided h (λ n. IsSome (outer_of new n)) (names_of new.root.packages.entries) (names_of (noted new))) (sym g)
+    (provided_more old.graph.now (λ n. IsSome (outer_of old n)) (λ n. IsSome (outer_of new n)) (names_of old.root.packages.entries) (names_of new.root.packages.entries) (names_of (noted old)) (names_of (noted new))
+    (λ n m. same_outer old new keeps.same n ∙ m) (λ id m. subst (λ ps. Among id (names_of ps.entries)) (sym keeps.same.packages) m) (nodes_kept old new keeps) ready)
 
 pub there_kept : (old new : Wired) → KeepsNodes old new → (k : ℕ) → ContainsNode old.graph.now k → ContainsNode new.graph.now k
 there_kept old new keeps k there = subst (λ r. ContainsNode r.now k) (sym keeps.same.graph) there
@@ -253,11 +255,11 @@ passed_there w sound k id bound is are ready needed = record {
     x : (y : NodeData) × (node_at w.graph.now k ≡ Some y) × (y.of ≡ Some id)
     x = of_node w.graph.now k (node_at w.graph.now k) refl id is
 
-    by_bound : (of : Packaged) → package_of w.graph.now id ≡ Some of → (n : Name) → Among n (names_of (imports_of w.graph.now.types of.ty)) → (o : Option ℕ) → value_at bound n ≡ o → StandsBy w.outers (noted w) n (value_at bound n)
+    by_bound : (of : Packaged) → package_of w.graph.now id ≡ Some of → (n : Name) → Among n (names_of (imports_of w.graph.now.types of.ty)) → (o : Option ℕ) → value_at bound n ≡ o → StandsBy (outer_of w) (noted w) n (value_at bound n)
     by_bound of held n m None e =
         let made : instantiated w.graph.now k ≡ Some of = ap (package_made w.graph.now) x.1 ∙ ap (package_if w.graph.now) x.2 ∙ held in
-        subst (StandsBy w.outers (noted w) n) (sym e) (ready.unbound k of n made m (sym (are n) ∙ e))
-    by_bound of held n m (Some a) e = subst (StandsBy w.outers (noted w) n) (sym e) (needed a (inl (n, argument_found w.graph.now.edges k a n (sym (are n) ∙ e))))
+        subst (StandsBy (outer_of w) (noted w) n) (sym e) (ready.unbound k of n made m (sym (are n) ∙ e))
+    by_bound of held n m (Some a) e = subst (StandsBy (outer_of w) (noted w) n) (sym e) (needed a (inl (n, argument_found w.graph.now.edges k a n (sym (are n) ∙ e))))
 
 -- the package has a world
 pub no_world : (o : Option Packaged) → option_map (λ (p : Packaged). p.ty) o ≡ None → IsSome o → ⊥

@@ -1,7 +1,7 @@
 -- Exports in another order.
 use Rattle.std.specs.Prelude.{option_to_list, if◌then◌else◌, not, ◌==◌, ◌||◌, is_some}
 use Rattle.std.specs.Cmp.Lexicographic.{pointwise}
-use Rattle.std.proofs.Common.{◌≡◌, ◌∙◌, ℕ, zero, suc, Bool, true, false, List, [], ◌∷◌, ◌++◌, length, take, Option, Some, None, slice_get, refl, sym, ap, subst, inl, inr, append_assoc}
+use Rattle.std.proofs.Common.{◌≡◌, ◌∙◌, ℕ, zero, suc, Bool, true, false, List, [], ◌∷◌, ◌++◌, length, Option, Some, None, slice_get, refl, sym, ap, subst, inl, inr, append_assoc}
 use Rattle.std.specs.List.{AllZip}
 use Rattle.std.proofs.lemmas.List.{append-nil, map-append}
 use Rattle.std.proofs.lemmas.Slice.Eq.{bytes_eq-Decides}
@@ -17,7 +17,6 @@ use Rattle.wac_graph_scopes.specs.Orders.{IsOrder}
 use Rattle.wac_graph_scopes.specs.Imports.{names_at}
 use Rattle.wac_graph_scopes.proofs.WritingLaws.{among_has}
 use Rattle.wac_types_parts.proofs.Lists.{distinct-append}
-use Rattle.wac_types_parts.proofs.PartLaws.{name_at}
 use Rattle.wac_graph_scopes.proofs.ImportLaws.{named_place, one_place}
 use Rattle.wac_graph_encode.specs.Standing.{AreFirst, Rearranges}
 use Rattle.wac_graph_encode.specs.Writing.{IsExportOf, AddsExport, AddsExports, other_exports, exports_at}

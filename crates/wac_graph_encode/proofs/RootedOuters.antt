@@ -1,7 +1,7 @@
 -- Outer imports that are placed stand for what is asked.
-use Rattle.std.specs.Prelude.{option_map}
+use Rattle.std.specs.Prelude.{option_and_then, option_map}
 use Rattle.std.proofs.Common.{◌≡◌, ℕ, true≢false, List, [], ◌∷◌, map, Option, Some, None, is_none, slice_get, refl, sym, ap, subst, ◌∙◌, inl, inr}
-use Rattle.std.proofs.lemmas.Option.{same_Some}
+use Rattle.std.proofs.lemmas.Option.{none-some, same_Some}
 use Rattle.wac_types_base.specs.declared.ids.WorldId.{WorldId}
 use Rattle.wac_types_base.specs.declared.item.ItemKind.{ItemKind}
 use Rattle.wac_types_base.specs.Record.{Collection}
@@ -20,7 +20,6 @@ use Rattle.wac_types_fit.proofs.Ordering.{tree_in_order}
 use Rattle.wac_graph_bytes.specs.Typing.{Worlds, Item, Inside}
 use Rattle.wac_graph_core.specs.Nodes.{NodeData, Role}
 use Rattle.wac_graph_core.specs.Graph.{Graph, IsGraph, node_at}
-use Rattle.wac_types_parts.specs.declared.called.Called.{Called}
 use Rattle.wac_graph_scopes.specs.declared.imports.SortIndex.{SortIndex}
 use Rattle.wac_graph_scopes.specs.declared.imports.ImportScope.{ImportScope}
 use Rattle.wac_types_parts.specs.Parts.{imports_of}
@@ -35,10 +34,22 @@ use Rattle.wac_graph_asks.specs.Outers.{IsOuters}
 use Rattle.wac_graph_asks.specs.Wirings.{asked_trees}
 use Rattle.wac_composition.proofs.Clashing.{name_found}
 use Rattle.wac_graph_asks.proofs.Origins.{node_among, among_mapped}
-use Rattle.wac_graph_encode.specs.Standing.{spelled, IsOuterAt}
+use Rattle.wac_graph_encode.specs.Standing.{spelled, IsOuterAt, written_under}
 use Rattle.wac_graph_encode.proofs.ItemSorts.{fits_sort, import_there}
 
-module _ (g : Graph) (sound : IsGraph g) (finite_types : IsAcyclic g.types) (c : Collection) (acyclic : IsAcyclic c) (world : WorldId) (called : List Called) (is : IsOuters g c world called) where
+-- what is written under a name is so at its place
+pub under_place : (places : List (Name × ℕ)) (imports : List (Option SortIndex)) (n : Name) (p : SortIndex) → written_under places imports n ≡ Some p → (at : ℕ) × (value_at places n ≡ Some at) × (slice_get imports at ≡ Some (Some p))
+under_place places imports n p v = by_place (value_at places n) refl v
+  where
+    by_import : (at : ℕ) (o : Option (Option SortIndex)) → slice_get imports at ≡ o → option_and_then (λ q. q) o ≡ Some p → slice_get imports at ≡ Some (Some p)
+    by_import at None q e = absurd (none-some _ e)
+    by_import at (Some r) q e = q ∙ ap Some e
+
+    by_place : (o : Option ℕ) → value_at places n ≡ o → option_and_then (λ at. option_and_then (λ q. q) (slice_get imports at)) o ≡ Some p → (at : ℕ) × (value_at places n ≡ Some at) × (slice_get imports at ≡ Some (Some p))
+    by_place None q e = absurd (none-some _ e)
+    by_place (Some at) q e = (at, q, by_import at (slice_get imports at) refl e)
+
+module _ (g : Graph) (sound : IsGraph g) (finite_types : IsAcyclic g.types) (c : Collection) (acyclic : IsAcyclic c) (world : WorldId) (places : List (Name × ℕ)) (is : IsOuters g c world places) where
   -- what an import of the graph asks
   abbrev pub ask_at : (j : ℕ) (x : NodeData) (n : Name) → Ask ℕ
   ask_at j x n = explicit_ask (record { by = j; name = n; item = item_of g x })
@@ -64,21 +75,22 @@ module _ (g : Graph) (sound : IsGraph g) (finite_types : IsAcyclic g.types) (c :
       ap (λ es. value_at es (spelled g n)) (sym is.imports) ∙ value_with (stated_of c) (imports_of c world) (spelled g n) ∙ ap (option_map (stated_of c)) at in
       subst (λ s. Fits (tree s) (tree (item_of g x))) (same_Some _ _ (sym met.there ∙ found)) met.fits
 
-  pub outers_stand : (w : Worlds) (i : Inside) (ps : List (Option SortIndex)) → ArePlaced w c (i.here ∷ []) (imports_of c world) ps → (one : Called) (p : SortIndex) → Among one called → slice_get ps one.at ≡ Some (Some p)
-      → IsOuterAt g w (at_root i []) one.name p
+  pub outers_stand : (w : Worlds) (i : Inside) (ps : List (Option SortIndex)) → ArePlaced w c (i.here ∷ []) (imports_of c world) ps → (n : Name) (p : SortIndex) → written_under places ps n ≡ Some p
+      → IsOuterAt g w (at_root i []) n p
   unfolding tree_in
-  outers_stand w i ps placed one p m at =
-      let call = is.called_there one m in
-      let k = call.0 in
-      let here = placed one.at (spelled g one.name) k p call.1 at in
-      let first = value_here (imports_of c world) one.at (spelled g one.name) k is.distinct call.1 in
+  outers_stand w i ps placed n p v =
+      let at = under_place places ps n p v in
+      let import = is.placed n at.0 at.1 in
+      let k = import.0 in
+      let here = placed at.0 (spelled g n) k p import.1 at.2 in
+      let first = value_here (imports_of c world) at.0 (spelled g n) k is.distinct import.1 in
       record {
-        meaning = Item (spelled g one.name) p.sort (tree_in c k);
+        meaning = Item (spelled g n) p.sort (tree_in c k);
         at = here.means;
         means = refl;
         asked = λ j x there role.
-            let fits = import_fits j x one.name k there role first in (
-              fits_sort c acyclic g.types finite_types k x.item_kind p.sort (import_there c acyclic world is.stands (spelled g one.name) k first) ((sound.nodes j x there).item) here.sort fits,
+            let fits = import_fits j x n k there role first in (
+              fits_sort c acyclic g.types finite_types k x.item_kind p.sort (import_there c acyclic world is.stands (spelled g n) k first) ((sound.nodes j x there).item) here.sort fits,
               λ instance. (tree_in c k, refl, tree_in_order (stated_of c k), fits),
             );
       }

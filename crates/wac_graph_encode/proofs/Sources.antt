@@ -19,7 +19,6 @@ use Rattle.wac_graph_core.specs.Walking.{first_argument}
 use Rattle.wac_graph_core.specs.Graph.{Graph, IsGraph, instantiated, item_import}
 use Rattle.wac_graph_core.specs.GraphWiring as wired
 use Rattle.wac_graph_core.proofs.Found.{argument_found}
-use Rattle.wac_types_parts.specs.declared.called.Called.{Called}
 use Rattle.wac_composition.specs.Asks.{ToFill, Ask, explicit_ask, filled_asks, named_asks, asks_of}
 use Rattle.wac_composition.proofs.Bound.{among_passing}
 use Rattle.wac_composition.proofs.Lists.{flat_among}
@@ -62,13 +61,13 @@ asks_weaker P Q w (Definition t) h = tt
 abbrev pub IsAsked : Graph → Source ℕ → Type 0
 IsAsked g s = Asks (λ n. IsSome (asked_trees g n)) s
 
-module _ (g : Graph) (sound : IsGraph g) (finite_types : IsAcyclic g.types) (c : Collection) (acyclic : IsAcyclic c) (world : WorldId) (called : List Called) (is : IsOuters g c world called) where
+module _ (g : Graph) (sound : IsGraph g) (finite_types : IsAcyclic g.types) (c : Collection) (acyclic : IsAcyclic c) (world : WorldId) (places : List (Name × ℕ)) (is : IsOuters g c world places) where
   asked_named : (a : Ask ℕ) → Among a (asks_of (composition_of g)) → IsSome (asked_trees g (spelled g a.name))
   asked_named a m = ap (λ (o : Option Stated). is_some (option_map tree o)) (is.met a m).there
 
   -- what a node stands for
   pub denoted_asks : (k : ℕ) (s : Source ℕ) → StandsFor g k s → IsAsked g s
-  denoted_asks k s (wired.imported x n at role) = asked_named (ask_at g sound finite_types c acyclic world called is k x n) (asked_there g sound finite_types c acyclic world called is k x n at role)
+  denoted_asks k s (wired.imported x n at role) = asked_named (ask_at g sound finite_types c acyclic world places is k x n) (asked_there g sound finite_types c acyclic world places is k x n at role)
   denoted_asks k s (wired.instance x at role) = tt
   denoted_asks k s (wired.defined x at role) = tt
   denoted_asks k s (wired.aliased {s = t} i n e d) = asks_project (λ m. IsSome (asked_trees g m)) t n (denoted_asks i t d)

@@ -36,7 +36,7 @@ steps_more w st (x ∷ xs) ys = go (step w st x) (λ m. steps_more w m xs ys)
     go None rest = refl
     go (Some m) rest = rest m
 
-module _ (g : Graph) (is : IsGraph g) (worlds : Worlds) (define : Bool) (asked : List (Name × Tree)) (found : List (Name × SortIndex)) (held : List (PackageId × ℕ)) (first : List (Name × ℕ))
+module _ (g : Graph) (is : IsGraph g) (worlds : Worlds) (define : Bool) (asked : List (Name × Tree)) (found : Name → Option SortIndex) (held : List (PackageId × ℕ)) (first : List (Name × ℕ))
     (es : List CodeEntry) (c : Counts) (nodes : List (ℕ × SortIndex)) (h : IsWritten g worlds define asked found held first es c nodes) where
   -- the state behind some of the exports
   record Along (st : State) (xs : List (Name × ℕ)) (fs : List CodeEntry) : Type 0 where

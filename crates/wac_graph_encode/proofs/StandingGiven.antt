@@ -53,7 +53,7 @@ has_imports c w xs n stands e =
     let here : world_in c w ≡ Some x.value = ap (λ (b : Bool). if b then slice_get c.worlds w.index else None) (ap (λ (k : ℕ). k == c.number) x.own ∙ eq_same c.number) ∙ x.at in
     same_values xs x.value.imports n (e ∙ ap (λ (o : Option World). names_of (imports_in_world o)) here) ∙ ap (λ (o : Option World). is_some (imported_in o n)) (sym x.at)
 
-module _ (g : Graph) (worlds : Worlds) (define : Bool) (asked : List (Name × Tree)) (found : List (Name × SortIndex)) (held : List (PackageId × ℕ)) (first : List (Name × ℕ))
+module _ (g : Graph) (worlds : Worlds) (define : Bool) (asked : List (Name × Tree)) (found : Name → Option SortIndex) (held : List (PackageId × ℕ)) (first : List (Name × ℕ))
     (es : List CodeEntry) (c : Counts) (nodes : List (ℕ × SortIndex)) (h : IsWritten g worlds define asked found held first es c nodes) (k : ℕ) where
   abbrev st : State
   st = h.state

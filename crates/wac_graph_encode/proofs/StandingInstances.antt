@@ -43,14 +43,14 @@ use Rattle.wac_graph_scopes.proofs.RootLaws.{zip_more}
 use Rattle.wac_graph_encode.proofs.StandingSteps.{named_front, named_end, stands_on, outer_on, package_on, exported_on, listed_on, counts_one, read_one, index_is}
 use Rattle.wac_graph_encode.proofs.StandingGiven.{Given, given, has_imports, instance_made, instance_is, instance_written, instance_given}
 
-module _ (g : Graph) (is : IsGraph g) (worlds : Worlds) (define : Bool) (asked : List (Name × Tree)) (found : List (Name × SortIndex)) (held : List (PackageId × ℕ)) (first : List (Name × ℕ))
+module _ (g : Graph) (is : IsGraph g) (worlds : Worlds) (define : Bool) (asked : List (Name × Tree)) (found : Name → Option SortIndex) (held : List (PackageId × ℕ)) (first : List (Name × ℕ))
     (es : List CodeEntry) (c : Counts) (nodes : List (ℕ × SortIndex)) (h : IsWritten g worlds define asked found held first es c nodes) where
   abbrev st : State
   st = h.state
 
   -- ---- an import that stands
 
-  module _ (k : ℕ) (n : Name) (p : SortIndex) (x : NodeData) (there : node_at g k ≡ Some x) (role : x.role ≡ Role.Imported n) (v : value_at found n ≡ Some p) where
+  module _ (k : ℕ) (n : Name) (p : SortIndex) (x : NodeData) (there : node_at g k ≡ Some x) (role : x.role ≡ Role.Imported n) (v : found n ≡ Some p) where
     o : IsOuterAt g worlds st n p
     o = h.outers n p v
 

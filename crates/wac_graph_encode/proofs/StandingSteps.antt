@@ -149,7 +149,7 @@ pub read_one : (worlds : Worlds) (es : List CodeEntry) (e : CodeEntry) (x : Entr
 read_one worlds es e x st next is reads one =
     ap (λ (ys : List Entry). steps worlds start ys) (map-append view es (e ∷ []) ∙ ap (λ (y : Entry). map view es ++ y ∷ []) is) ∙ steps_push worlds (map view es) start st next x reads one
 
-module _ (g : Graph) (is : IsGraph g) (finite : IsFinite g.types) (worlds : Worlds) (define : Bool) (asked : List (Name × Tree)) (found : List (Name × SortIndex)) (held : List (PackageId × ℕ)) (first : List (Name × ℕ))
+module _ (g : Graph) (is : IsGraph g) (finite : IsFinite g.types) (worlds : Worlds) (define : Bool) (asked : List (Name × Tree)) (found : Name → Option SortIndex) (held : List (PackageId × ℕ)) (first : List (Name × ℕ))
     (es : List CodeEntry) (c : Counts) (nodes : List (ℕ × SortIndex)) (h : IsWritten g worlds define asked found held first es c nodes) where
   abbrev st : State
   st = h.state

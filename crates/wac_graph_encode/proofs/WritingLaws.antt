@@ -1,16 +1,14 @@
 -- What is given to an instance, and which nodes are written before others.
 use Rattle.std.specs.Prelude.{Option, IfSome, IfNone, IsSome, is_some, slice_get, take}
-use Rattle.std.proofs.lemmas.List.{append-nil, append_assoc}
 use Rattle.std.specs.List.{AllZip}
 use Rattle.std.specs.Map.{lookup}
 use Rattle.std.specs.FinMap as finite
-use Rattle.std.specs.Cmp.Lexicographic.{pointwise, same_text}
-use Rattle.std.proofs.Common.{◌≡◌, ◌==◌, ◌⊎◌, ◌<◌, ◌≤◌, ℕ, ◌+◌, length, Bool, true, false, if◌then◌else◌, List, ◌++◌, [], ◌∷◌, Some, None, inl, inr, refl, sym, ap, subst, ◌∙◌, arith}
-use Rattle.wac_types_base.specs.Entries.{AreDistinct, Name, names_of, put_entry, value_at, values_of}
+use Rattle.std.specs.Cmp.Lexicographic.{pointwise}
+use Rattle.std.proofs.Common.{◌≡◌, ◌==◌, ◌⊎◌, ◌<◌, ◌≤◌, ℕ, ◌+◌, Bool, true, false, if◌then◌else◌, List, ◌++◌, [], ◌∷◌, Some, None, inl, inr, refl, sym, ap, subst, ◌∙◌, arith}
+use Rattle.wac_types_base.specs.Entries.{AreDistinct, Name, names_of, value_at, values_of}
 use Rattle.wac_types_base.specs.Graph.{Among}
 use Rattle.wac_types_base.specs.declared.item.ItemKind.{ItemKind}
-use Rattle.wac_types_base.proofs.Loops.{map-one_more, take-all}
-use Rattle.wac_types_base.proofs.Looked.{take-one_more}
+use Rattle.wac_types_base.proofs.Loops.{map-one_more}
 use Rattle.wac_graph_bytes.specs.declared.entry.NamedIndex.{NamedIndex}
 use Rattle.wac_graph_bytes.specs.declared.entry.Entry.{Entry as CodeEntry}
 use Rattle.wac_graph_bytes.specs.Views.{arguments_view}
@@ -26,12 +24,11 @@ use Rattle.wac_graph_core.specs.contracts.ids.NodeIdPartialEq.TheImpl as node
 use Rattle.wac_graph_core.proofs.Found.{argument_found, no_argument, same_name}
 use Rattle.wac_types_fit.proofs.Items.{differs, value_at-among, name-among}
 use Rattle.wac_graph_scopes.specs.declared.imports.SortIndex.{SortIndex}
-use Rattle.wac_types_parts.specs.declared.called.Called.{Called}
 use Rattle.wac_graph_encode.specs.declared.instances.Wired.{Wired}
 use Rattle.wac_graph_encode.specs.declared.instances.Standing.{Standing}
 use Rattle.wac_graph_asks.specs.Reads.{AreArguments}
 use Rattle.wac_graph_encode.specs.Standing.{IsGivenAt, argument, outer}
-use Rattle.wac_graph_encode.specs.Writing.{IsNeeded, AddsCalled, AreCalled, AddsEntry, AddsExport, AddsExports, AddsGiven, AddsNeeded, IsExportOf, exported_as, GivesUnder, by_node, by_import, AreGivenUnder, AreGivenAt, IsSameRoot, KeepsNodes, AddsOnly, Below, UpToOne, WrittenSo, noted, AllAreWritten}
+use Rattle.wac_graph_encode.specs.Writing.{IsNeeded, AddsEntry, AddsExport, AddsGiven, AddsNeeded, exported_as, GivesUnder, by_node, by_import, AreGivenUnder, AreGivenAt, IsSameRoot, KeepsNodes, AddsOnly, Below, UpToOne, WrittenSo, noted, outer_in, AllAreWritten}
 use Rattle.wac_graph_encode.proofs.Entries.{same_node, found_among, none_among}
 use Rattle.wac_types_fit.proofs.Items.{Among-last}
 use Rattle.wac_graph_scopes.proofs.RootLaws.{zip_more}
@@ -40,13 +37,13 @@ use Rattle.wac_graph_encode.proofs.StandingNumbers.{zip_map}
 -- ---- what is given
 
 module _ (g : Graph) (k : ℕ) (bound : List (Name × ℕ)) (are : AreArguments g k bound) (s : Standing) where
-  pub given_at : (n : Name) (p : SortIndex) → GivesUnder s bound n p → IsGivenAt g s.outers.now s.nodes.now.entries k n p
+  pub given_at : (n : Name) (p : SortIndex) → GivesUnder s bound n p → IsGivenAt g (outer_in s) s.nodes.now.entries k n p
   given_at n p (by_node a v m) = argument a (argument_found g.edges k a n (sym (are n) ∙ v)) m
   given_at n p (by_import v o) = outer (λ a. no_argument g.edges k a n (sym (are n) ∙ v)) o
 
-  pub all_given : (ns : List Name) (as_ : List Argument) → AreGivenUnder s bound ns as_ → AreGivenAt g s.outers.now s.nodes.now.entries k ns as_
+  pub all_given : (ns : List Name) (as_ : List Argument) → AreGivenUnder s bound ns as_ → AreGivenAt g (outer_in s) s.nodes.now.entries k ns as_
   all_given ns as_ z =
-      zip_map (λ n a. (a.0 ≡ n) × GivesUnder s bound n (record { sort = a.1; index = a.2 })) (λ n a. (a.0 ≡ n) × IsGivenAt g s.outers.now s.nodes.now.entries k n (record { sort = a.1; index = a.2 }))
+      zip_map (λ n a. (a.0 ≡ n) × GivesUnder s bound n (record { sort = a.1; index = a.2 })) (λ n a. (a.0 ≡ n) × IsGivenAt g (outer_in s) s.nodes.now.entries k n (record { sort = a.1; index = a.2 }))
       (λ n a x. (x.0, given_at n (record { sort = a.1; index = a.2 }) x.1)) ns as_ z
 
 -- what stands among the values stands under a name
@@ -85,41 +82,6 @@ pub none_if : (nodes : List (ℕ × SortIndex)) (k : ℕ) (o : Option SortIndex)
 none_if nodes k None e = none_among node.eq-value.it same_node nodes k (sym e)
 none_if nodes k (Some p) e = tt
 
--- ---- outer imports, one after another
-
-pub value_put : {T : Type 0} (es : List (Name × T)) (n m : Name) (v x : T) → value_at (put_entry es n v) m ≡ Some x → (value_at es m ≡ Some x) ⊎ ((n ≡ m) × (v ≡ x))
-value_put {T = T} [] n m v x e = go (pointwise ◌==◌ m n) refl e
-  where
-    go : (b : Bool) → pointwise ◌==◌ m n ≡ b → (if b then Some v else None) ≡ Some x → (value_at {T = T} [] m ≡ Some x) ⊎ ((n ≡ m) × (v ≡ x))
-    go true q r = let one : v ≡ x = cc r in inr (sym (same_text m n (sym q)), one)
-    go false q r = absurd (cc r)
-value_put (y ∷ es) n m v x e = at (pointwise ◌==◌ n y.0) refl e (value_put es n m v x)
-  where
-    at : (b : Bool) → pointwise ◌==◌ n y.0 ≡ b → value_at (if b then (y.0, v) ∷ es else y ∷ put_entry es n v) m ≡ Some x → (value_at (put_entry es n v) m ≡ Some x → (value_at es m ≡ Some x) ⊎ ((n ≡ m) × (v ≡ x)))
-        → (value_at (y ∷ es) m ≡ Some x) ⊎ ((n ≡ m) × (v ≡ x))
-    at true q r rest = here (pointwise ◌==◌ m y.0) refl r
-      where
-        here : (b : Bool) → pointwise ◌==◌ m y.0 ≡ b → (if b then Some v else value_at es m) ≡ Some x → ((if b then Some y.1 else value_at es m) ≡ Some x) ⊎ ((n ≡ m) × (v ≡ x))
-        here true p k = let one : v ≡ x = cc k in inr (same_text n y.0 (sym q) ∙ sym (same_text m y.0 (sym p)), one)
-        here false p k = inl k
-    at false q r rest = there (pointwise ◌==◌ m y.0) r
-      where
-        there : (b : Bool) → (if b then Some y.1 else value_at (put_entry es n v) m) ≡ Some x → ((if b then Some y.1 else value_at es m) ≡ Some x) ⊎ ((n ≡ m) × (v ≡ x))
-        there true k = inl k
-        there false k = rest k
-
-pub called_put : (one : Called) (imports : List (Option SortIndex)) (old new : List (Name × SortIndex)) (p : SortIndex) → slice_get imports one.at ≡ Some (Some p) → new ≡ put_entry old one.name p → AddsCalled one imports old new
-called_put one imports old new p at is n q v = elim (value_put old one.name n p q (ap (λ (es : List (Name × SortIndex)). value_at es n) (sym is) ∙ v)) [
-  | inl before ↦ inl before
-  | inr own ↦ inr (own.0, at ∙ ap (λ (x : SortIndex). Some (Some x)) own.1)
-]
-
-pub called_next : (called : List Called) (imports : List (Option SortIndex)) (old new : List (Name × SortIndex)) (one : Called) → Among one called → AddsCalled one imports old new → AreCalled called imports old → AreCalled called imports new
-called_next called imports old new one there adds are n p v = elim (adds n p v) [
-  | inl before ↦ are n p before
-  | inr own ↦ record { one = one; there = there; name = own.0; place = own.1 }
-]
-
 -- ---- arguments and exports, one after another
 
 pub given_next : (s : Standing) (bound : List (Name × ℕ)) (xs : List (Name × ItemKind)) (i : ℕ) (n : Name) (k : ItemKind) (old new : List NamedIndex) → slice_get xs i ≡ Some (n, k) → AddsGiven s bound n old new
@@ -156,10 +118,10 @@ stands_if nodes k None e x = absurd (cc e)
 stands_if nodes k (Some p) e x = name-among nodes k p x
 
 pub same_refl : (w : Wired) → IsSameRoot w w
-same_refl w = record { graph = refl; outers = refl; packages = refl; exported = refl; nested = refl }
+same_refl w = record { graph = refl; places = refl; imports = refl; packages = refl; exported = refl; nested = refl }
 
 pub same_trans : (u v w : Wired) → IsSameRoot u v → IsSameRoot v w → IsSameRoot u w
-same_trans u v w a b = record { graph = b.graph ∙ a.graph; outers = b.outers ∙ a.outers; packages = b.packages ∙ a.packages; exported = b.exported ∙ a.exported; nested = b.nested ∙ a.nested }
+same_trans u v w a b = record { graph = b.graph ∙ a.graph; places = b.places ∙ a.places; imports = b.imports ∙ a.imports; packages = b.packages ∙ a.packages; exported = b.exported ∙ a.exported; nested = b.nested ∙ a.nested }
 
 pub keeps_refl : (w : Wired) → KeepsNodes w w
 keeps_refl w = record { same = same_refl w; kept = λ k p m. m }

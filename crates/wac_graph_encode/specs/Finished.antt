@@ -115,7 +115,7 @@ UnfitWired x old r = old.graph.now ≡ x.graph.now → IsBare old.root
 
 -- all of it is there: the graph's outer imports, the worlds of its packages, its definitions as they are written
 abbrev pub IsThere : Graph → Asked → Outers → List Definition → Type 0
-IsThere g asked outers xs = IsOuters g asked.types outers.world outers.called.items × AreWorldsOf g asked.types asked.packages.entries
+IsThere g asked outers xs = IsOuters g asked.types outers.world outers.places × AreWorldsOf g asked.types asked.packages.entries
     × AreToWrite g asked.types xs
 
 abbrev pub UnfitAsked : {A : Type 0} → Graph → Asked → Outers → List Definition → EncodeOptions → Result A BytesError → Type 0
@@ -137,7 +137,7 @@ pub record IsPrepared (g : Graph) (a : Asked) (o : Outers) : Type 0 where
   pub worlds : AreWorldsOf g a.types a.packages.entries
   pub definitions : map (placed_in g.types) a.definitions.items ≡ (composition_of g).definitions
   pub copies : AreCopied g.types a.types a.definitions.items
-  pub outers : IsOuters g a.types o.world o.called.items
+  pub outers : IsOuters g a.types o.world o.places
 
 abbrev pub MeansNested : Graph → EncodeOptions → List ℕ → Type 0
 MeansNested g options bytes = options.define_components ≡ true → IsComposed true g bytes

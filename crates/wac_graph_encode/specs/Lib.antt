@@ -14,3 +14,5 @@ pub mod Worlds
 pub mod Importing
 pub mod Stocked
 pub mod RefusedInstances
+pub mod PlainOrders
+pub mod RefusedImports

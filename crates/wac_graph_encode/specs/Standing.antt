@@ -1,5 +1,5 @@
 -- What stands at the root of a component while the instances of a graph are written.
-use Rattle.std.specs.Prelude.{◌≡◌, ◌==◌, ◌<◌, ℕ, ◌+◌, Bool, true, if◌then◌else◌, List, [], map, Some, IsSome, slice_get}
+use Rattle.std.specs.Prelude.{◌≡◌, ◌==◌, ◌<◌, ℕ, ◌+◌, Bool, true, if◌then◌else◌, List, [], map, Option, Some, IsSome, option_and_then, slice_get}
 use Rattle.std.specs.List.{AllZip, position_or_len}
 use Rattle.wac_types_base.specs.declared.item.ItemKind.{ItemKind}
 use Rattle.wac_types_base.specs.Entries.{Name, AreDistinct, names_of, value_at}
@@ -70,6 +70,10 @@ pub record AreFirst (given exports : List (Name × ℕ)) : Type 0 where
   pub once : AreDistinct (names_of given)
   pub there : (e : Name × ℕ) → Among e given → value_at exports e.0 ≡ Some e.1
 
+-- what is written of the import at the place of the name
+abbrev pub written_under : (places : List (Name × ℕ)) → (imports : List (Option SortIndex)) → Name → Option SortIndex
+written_under places imports n = option_and_then (λ at. option_and_then (λ p. p) (slice_get imports at)) (value_at places n)
+
 module _ (g : Graph) where
   abbrev pub spelled : Name → Name
   spelled = spelling (asks_of (composition_of g))
@@ -82,10 +86,10 @@ module _ (g : Graph) where
   IsInstanceOf = wired.IsInstance spelled (written_tree g) g
 
   -- what is passed to an instance under a name: its argument, where that stands, or else the outer import of the name
-  pub data IsGivenAt (found : List (Name × SortIndex)) (nodes : List (ℕ × SortIndex)) (k : ℕ) (n : Name)
+  pub data IsGivenAt (found : Name → Option SortIndex) (nodes : List (ℕ × SortIndex)) (k : ℕ) (n : Name)
       (p : SortIndex) : Type 0 where
     argument : (a : ℕ) → HasArgument g.edges k n a → Among (a, p) nodes → IsGivenAt found nodes k n p
-    outer : ((a : ℕ) → HasArgument g.edges k n a → ⊥) → value_at found n ≡ Some p → IsGivenAt found nodes k n p
+    outer : ((a : ℕ) → HasArgument g.edges k n a → ⊥) → found n ≡ Some p → IsGivenAt found nodes k n p
 
   module _ (worlds : Worlds) where
     -- where the item is an instance, the tree of what is meant is known, and gives all that is asked of the item
@@ -145,7 +149,7 @@ module _ (g : Graph) where
 
       -- The entries can be read, and their indexes are counted. The outer imports, the packages and these nodes stand, and these
       -- exports are written; the instances are those of the nodes that were written, in that order.
-      pub record IsWritten (asked : List (Name × Tree)) (found : List (Name × SortIndex)) (held : List (PackageId × ℕ))
+      pub record IsWritten (asked : List (Name × Tree)) (found : Name → Option SortIndex) (held : List (PackageId × ℕ))
           (given : List (Name × ℕ)) (es : List Entry) (c : Counts) (nodes : List (ℕ × SortIndex)) : Type 0 where
         pub state : State
         pub reads : steps worlds start (map view es) ≡ Some state
@@ -153,7 +157,7 @@ module _ (g : Graph) where
         pub imports : state.listed.imports ≡ asked
         pub firsts : AreFirst given g.exports
         pub stated : state.stated ≡ []
-        pub outers : (n : Name) (p : SortIndex) → value_at found n ≡ Some p → IsOuterAt state n p
+        pub outers : (n : Name) (p : SortIndex) → found n ≡ Some p → IsOuterAt state n p
         pub packages : (id : PackageId) (index : ℕ) → Among (id, index) held → IsPackageAt state id index
         pub order : List ℕ
         pub once : AreDistinct order

@@ -1,5 +1,5 @@
 -- The world that is handed out, and what is told of it on the way.
-use Rattle.std.specs.Prelude.{◌≡◌, ◌⊎◌, ℕ, true, false, List, [], map, Option, Some, None, IsSome, slice_get}
+use Rattle.std.specs.Prelude.{◌≡◌, ◌⊎◌, ℕ, true, false, List, [], map, Option, Some, None, IsSome, option_and_then, option_map, slice_get}
 use Rattle.wac_types_base.specs.declared.item.ItemKind.{ItemKind}
 use Rattle.wac_types_base.specs.declared.ids.WorldId.{WorldId}
 use Rattle.wac_types_base.specs.Record.{Collection}
@@ -16,7 +16,6 @@ use Rattle.wac_graph_core.specs.contracts.ids.NodeIdPartialEq.TheImpl as node
 use Rattle.wac_graph_core.specs.Nodes.{NodeData, Role}
 use Rattle.wac_graph_core.specs.Graph.{Graph, is_instance, node_at}
 use Rattle.wac_types_parts.specs.Parts.{imports_of}
-use Rattle.wac_types_parts.specs.declared.called.Called.{Called}
 use Rattle.wac_composition.specs.Asks.{asks_of}
 use Rattle.wac_composition.specs.Worlds.{exported_type, final_type, used_world}
 use Rattle.wac_graph_asks.specs.declared.asks.Definition.{Definition}
@@ -40,7 +39,7 @@ AreAllDefined g xs =
 
 -- what the graph asks of the outside is there, with all its definitions in the forms in which they are written
 pub record IsToHandOut (g : Graph) (c : Collection) (o : Outers) (xs : List Definition) : Type 0 where
-  pub outers : IsOuters g c o.world o.called.items
+  pub outers : IsOuters g c o.world o.places
   pub definitions : AreToWrite g c xs
   pub all : AreAllDefined g xs
 
@@ -71,32 +70,18 @@ abbrev pub TellsFinal : Graph → Collection → ℕ → Option ItemKind → Typ
 TellsFinal g c k (Some item) = IsFinal g c k item
 TellsFinal g c k None = HasOwnType g k
 
--- the types of imports and of definitions are known; other definitions have the types that they have in the graph
+-- the outer imports and the types of definitions are known; other definitions have the types that they have in the graph
 pub record KnowsFinals (g : Graph) (c : Collection) (f : Finals) : Type 0 where
-  pub outers : (k : ℕ) (x : NodeData) (n : Name) → node_at g k ≡ Some x → x.role ≡ Role.Imported n
-      → (item : ItemKind) × (value_at f.outers n ≡ Some item) × IsFinal g c k item
+  pub outers : IsOuters g c f.outers.now.world f.outers.now.places
   pub definitions : (k : ℕ) (item : ItemKind) → Among (k, item) f.definitions.entries → IsFinal g c k item
   pub others : (k : ℕ) (x : NodeData) → node_at g k ≡ Some x → x.role ≡ Role.Defined
       → (Among k (names_of f.definitions.entries) → ⊥) → HasOwnType g k
 
 -- ---- how it is told
 
--- the type of the outer import that is called so
-abbrev pub told_called : Called → Option (Name × ItemKind) → List (Name × ItemKind) → List (Name × ItemKind)
-told_called one None es = es
-told_called one (Some e) es = put_entry es one.name e.1
-
-abbrev pub TellsCalled : Collection → WorldId → Called → List (Name × ItemKind) → List (Name × ItemKind) → Type 0
-TellsCalled c world one old new = new ≡ told_called one (slice_get (imports_of c world) one.at) old
-
-abbrev pub IsCalledType : Collection → WorldId → List Called → Name → ItemKind → Type 0
-IsCalledType c world called n k =
-    (one : Called) × Among one called × (one.name ≡ n) × (m : Name) × (slice_get (imports_of c world) one.at ≡ Some (m, k))
-
--- the types of the outer imports, by the names under which they are asked for
-pub record AreCalledTypes (c : Collection) (world : WorldId) (called : List Called) (es : List (Name × ItemKind)) : Type 0 where
-  pub sound : (n : Name) (k : ItemKind) → value_at es n ≡ Some k → IsCalledType c world called n k
-  pub all : (one : Called) → Among one called → IsSome (slice_get (imports_of c world) one.at) → IsSome (value_at es one.name)
+-- the type of the outer import that is asked for under the name
+abbrev pub outer_type : Collection → Outers → Name → Option ItemKind
+outer_type c o n = option_and_then (λ at. option_map (λ e. e.1) (slice_get (imports_of c o.world) at)) (value_at o.places n)
 
 abbrev pub IsDefinitionType : List Definition → ℕ → ItemKind → Type 0
 IsDefinitionType xs k item = (x : Definition) × Among x xs × (x.node ≡ k) × (x.copy ≡ Some item)

@@ -1,5 +1,5 @@
 -- What writing the nodes of a graph does, one behind those that it needs.
-use Rattle.std.specs.Prelude.{◌≡◌, ◌⊎◌, ◌<◌, ◌≤◌, ℕ, Bool, true, List, ◌++◌, [], ◌∷◌, Option, Some, None, slice_get, option_to_list, filter, not, Result, OnOk, IfOk, IfSome}
+use Rattle.std.specs.Prelude.{◌≡◌, ◌⊎◌, ◌<◌, ◌≤◌, ℕ, Bool, List, ◌++◌, [], ◌∷◌, Option, Some, None, slice_get, option_to_list, filter, not, Result, OnOk, IfOk}
 use Rattle.std.specs.List.{AllZip}
 use Rattle.wac_types_base.specs.declared.ids.WorldId.{WorldId}
 use Rattle.wac_types_base.specs.Record.{Collection}
@@ -21,12 +21,11 @@ use Rattle.wac_types_names.specs.Packaged.{Packaged}
 use Rattle.wac_graph_asks.specs.Reads.{AreArguments, package_id_of}
 use Rattle.wac_graph_scopes.specs.declared.imports.SortIndex.{SortIndex}
 use Rattle.wac_graph_encode.specs.declared.root.Root.{Root}
-use Rattle.wac_types_parts.specs.declared.called.Called.{Called}
 use Rattle.wac_graph_encode.specs.declared.instances.Wired.{Wired}
 use Rattle.wac_graph_encode.specs.declared.instances.Standing.{Standing}
 use Rattle.wac_graph_scopes.specs.Items.{sort_of}
 use Rattle.wac_graph_encode.specs.Encoding.{nested_at}
-use Rattle.wac_graph_encode.specs.Standing.{AreFirst, counted, CountsNext, IsFinished, IsGivenAt, IsOuterAt, IsWritten, Rearranges}
+use Rattle.wac_graph_encode.specs.Standing.{AreFirst, counted, CountsNext, IsFinished, IsGivenAt, IsOuterAt, IsWritten, Rearranges, written_under}
 
 -- ---- entries
 
@@ -59,16 +58,23 @@ IsNeeded g j k = ((n : Name) × HasArgument g.edges k n j) ⊎ ((n : Name) × Ha
 abbrev pub AddsNeeded : Graph → ℕ → List ℕ → List ℕ → Type 0
 AddsNeeded g k old new = (j : ℕ) → Among j new → Among j old ⊎ IsNeeded g j k
 
+-- what is written of the outer import that is asked under a name
+abbrev pub outer_in : Standing → Name → Option SortIndex
+outer_in s = written_under s.places.now s.imports.now
+
+abbrev pub outer_of : Wired → Name → Option SortIndex
+outer_of w = written_under w.places.now w.imports.items
+
 -- what is given under a name: the node that is bound, where it stands, or else the outer import
 pub data GivesUnder (s : Standing) (bound : List (Name × ℕ)) (n : Name) (p : SortIndex) : Type 0 where
   by_node : (a : ℕ) → value_at bound n ≡ Some a → Among (a, p) s.nodes.now.entries → GivesUnder s bound n p
-  by_import : value_at bound n ≡ None → value_at s.outers.now n ≡ Some p → GivesUnder s bound n p
+  by_import : value_at bound n ≡ None → outer_in s n ≡ Some p → GivesUnder s bound n p
 
 abbrev pub AreGivenUnder : Standing → List (Name × ℕ) → List Name → List Argument → Type 0
 AreGivenUnder s bound ns as_ = AllZip (λ n a. (a.0 ≡ n) × GivesUnder s bound n (record { sort = a.1; index = a.2 })) ns as_
 
 -- under each name, what is given to the instance there
-abbrev pub AreGivenAt : Graph → List (Name × SortIndex) → List (ℕ × SortIndex) → ℕ → List Name → List Argument → Type 0
+abbrev pub AreGivenAt : Graph → (Name → Option SortIndex) → List (ℕ × SortIndex) → ℕ → List Name → List Argument → Type 0
 AreGivenAt g found nodes k ns as_ =
     AllZip (λ n a. (a.0 ≡ n) × IsGivenAt g found nodes k n (record { sort = a.1; index = a.2 })) ns as_
 
@@ -85,23 +91,6 @@ pub record AddsGiven (s : Standing) (bound : List (Name × ℕ)) (n : Name) (old
   pub given : GivesUnder s bound n place
   pub added : arguments_view new ≡ arguments_view old ++ (n, place.sort, place.index) ∷ []
 
--- ---- outer imports
-
--- under a name that is asked stands what is written of the import at its place
-pub record IsCalled (called : List Called) (imports : List (Option SortIndex)) (n : Name) (p : SortIndex) : Type 0 where
-  pub one : Called
-  pub there : Among one called
-  pub name : one.name ≡ n
-  pub place : slice_get imports one.at ≡ Some (Some p)
-
--- only what is written of that import comes in, under its name
-abbrev pub AddsCalled : Called → List (Option SortIndex) → List (Name × SortIndex) → List (Name × SortIndex) → Type 0
-AddsCalled one imports old new = (n : Name) (p : SortIndex) → value_at new n ≡ Some p
-    → (value_at old n ≡ Some p) ⊎ ((one.name ≡ n) × (slice_get imports one.at ≡ Some (Some p)))
-
-abbrev pub AreCalled : List Called → List (Option SortIndex) → List (Name × SortIndex) → Type 0
-AreCalled called imports found = (n : Name) (p : SortIndex) → value_at found n ≡ Some p → IsCalled called imports n p
-
 -- ---- what is written
 
 abbrev pub noted : Wired → List (ℕ × SortIndex)
@@ -110,7 +99,7 @@ noted w = w.root.nodes.entries
 -- what is written, where these nodes stand
 abbrev pub WrittenWith : Bool → Worlds → List (Name × Tree) → Wired → List (ℕ × SortIndex) → Type 0
 WrittenWith define worlds asked w nodes =
-    IsWritten w.graph.now worlds define asked w.outers w.root.packages.entries w.root.exported w.root.entries.items
+    IsWritten w.graph.now worlds define asked (outer_of w) w.root.packages.entries w.root.exported w.root.entries.items
     w.root.counts nodes
 
 abbrev pub WrittenSo : Bool → Worlds → List (Name × Tree) → Wired → Type 0
@@ -128,7 +117,8 @@ NestsNoMore old new = nested_at new.entries.items ≡ nested_at old.entries.item
 -- the graph, the outer imports, the packages and the first exports are the same
 pub record IsSameRoot (old new : Wired) : Type 0 where
   pub graph : new.graph ≡ old.graph
-  pub outers : new.outers ≡ old.outers
+  pub places : new.places ≡ old.places
+  pub imports : new.imports ≡ old.imports
   pub packages : new.root.packages ≡ old.root.packages
   pub exported : new.root.exported ≡ old.root.exported
   pub nested : NestsNoMore old.root new.root
@@ -154,7 +144,7 @@ abbrev pub PassesAll : Wired → PackageId → List (Name × ℕ) → List Argum
 PassesAll w id bound as_ = (of : Packaged) → package_of w.graph.now id ≡ Some of
     → AreDistinct (names_of (imports_of w.graph.now.types of.ty))
     × ((k : ℕ) → AreArguments w.graph.now k bound
-    → AreGivenAt w.graph.now w.outers (noted w) k (names_of (imports_of w.graph.now.types of.ty)) as_)
+    → AreGivenAt w.graph.now (outer_of w) (noted w) k (names_of (imports_of w.graph.now.types of.ty)) as_)
 
 -- the node is an alias of this sort, of an export of what stands at the index
 pub record IsAliasAt (w : Wired) (k : ℕ) (s : Sort) (index : ℕ) (n : Name) : Type 0 where
@@ -187,17 +177,17 @@ AllAreWritten g nodes = (k : ℕ) → ContainsNode g k → Among k (names_of nod
 
 -- The types, the outer imports and the packages are written, and no instance: what is written of the imports at these places
 -- stands for the outer imports that are asked under these names.
-pub record IsBegun (define : Bool) (worlds : Worlds) (asked : List (Name × Tree)) (called : List Called) (g : Graph)
+pub record IsBegun (define : Bool) (worlds : Worlds) (asked : List (Name × Tree)) (places : List (Name × ℕ)) (g : Graph)
     (r : Root) : Type 0 where
-  pub written : IsWritten g worlds define asked [] r.packages.entries r.exported r.entries.items r.counts
+  pub written : IsWritten g worlds define asked (λ n. None) r.packages.entries r.exported r.entries.items r.counts
       r.nodes.entries
-  pub outers : (one : Called) (p : SortIndex) → Among one called → slice_get r.imports.items one.at ≡ Some (Some p)
-      → IsOuterAt g worlds written.state one.name p
+  pub outers : (n : Name) (p : SortIndex) → written_under places r.imports.items n ≡ Some p
+      → IsOuterAt g worlds written.state n p
 
 -- what is begun is finished
-abbrev pub Finishes : {A E : Type 0} → List Called → Wired → Wired → Result A E → Type 0
-Finishes called old new r = (define : Bool) (worlds : Worlds) (asked : List (Name × Tree))
-    → IsBegun define worlds asked called old.graph.now old.root
+abbrev pub Finishes : {A E : Type 0} → Wired → Wired → Result A E → Type 0
+Finishes old new r = (define : Bool) (worlds : Worlds) (asked : List (Name × Tree))
+    → IsBegun define worlds asked old.places.now old.graph.now old.root
     → OnOk r (IsFinished old.graph.now worlds define asked new.root.entries.items)
 
 -- ---- exports

@@ -86,7 +86,7 @@ fn bytes_of_entries(
 
 /// The bytes of a composition, where nothing of it is written yet.
 fn bytes_wired(writing: Writing<'_>, wired: &mut Wired<'_>) -> Result<Vec<u8>, BytesError>
-    requires none { wired.old.outers ≡ [] }
+    requires places { wired.old.places.now ≡ writing.all.places.now }
     requires graph { wired.old.graph.now ≡ writing.graph.now }
     requires to { IsToBegin writing }
     requires all { HasAllOf writing.graph.now (names_of writing.worlds.now.entries) writing.definitions.now }
@@ -99,7 +99,7 @@ fn bytes_wired(writing: Writing<'_>, wired: &mut Wired<'_>) -> Result<Vec<u8>, B
     writing.graph.types().see_acyclic();
     writing.all.types.see_acyclic();
     write_root(writing, &mut wired.root)?;
-    let names = wired.write_all(writing.all.called)?;
+    let names = wired.write_all()?;
     let alloc = writing.graph.alloc();
     bytes_of_entries(alloc, &wired.root.entries, names, writing.options)
 }
@@ -123,7 +123,7 @@ fn bytes_with_uses(
     let all = Importing {
         types: &asked.types,
         world: outers.world,
-        called: outers.called.as_slice(),
+        places: &outers.places,
         uses,
         over_exports: false,
     };
@@ -134,7 +134,7 @@ fn bytes_with_uses(
         definitions,
         options,
     };
-    let mut wired = Wired::new(graph.alloc(), graph);
+    let mut wired = Wired::new(graph.alloc(), graph, &outers.places);
     bytes_wired(writing, &mut wired)
 }
 

@@ -1,7 +1,7 @@
 //! The instances, aliases and exports of a composition, as entries.
 
-ghost use Rattle.std.specs.Prelude.{◌≡◌, ◌++◌, [], ◌∷◌, Some, IfOk, IfSome, IfNone, OnOk, slice_get};
-ghost use Rattle.wac_types_base.specs.Entries.{AreDistinct, names_of, value_at};
+ghost use Rattle.std.specs.Prelude.{◌≡◌, ◌++◌, [], ◌∷◌, Some, IsSome, IfOk, IfSome, IfNone, OnOk, slice_get};
+ghost use Rattle.wac_types_base.specs.Entries.{AreDistinct, names_of};
 ghost use Rattle.wac_types_base.specs.Graph.{Among};
 ghost use Rattle.wac_graph_bytes.specs.Views.{arguments_view};
 ghost use Rattle.wac_graph_core.specs.Graph.{ContainsNode, IsOfKind};
@@ -9,9 +9,10 @@ ghost use Rattle.wac_types_parts.specs.Parts.{imports_of};
 ghost use Rattle.wac_graph_asks.specs.Reads.{AreArguments};
 ghost use Rattle.wac_graph_scopes.specs.Items.{sort_of};
 ghost use Rattle.wac_graph_encode.specs.Beginning.{IsBare};
-ghost use Rattle.wac_graph_encode.specs.Ready.{AddsNames, AddsSource, AllStand, AllStandUnder, ArePlacedAt, AreThere, CanBeAlias, CanBePassed, HasNeeded};
-ghost use Rattle.wac_graph_encode.specs.Ready.{IsPlacedAt, IsReady, IsReadyWith, IsUnsorted, NeededStand, StandsUnder, called_names};
-ghost use Rattle.wac_graph_encode.specs.Writing.{Finishes, AddsArgument, AddsCalled, AddsExport, AddsExports, AddsAt, AddsInOrder, other_exports, AddsGiven, AddsNeeded, AddsOnly, AreCalled, AreGivenIn, Below, GivesUnder, IsAliasAt, IsSameRoot, KeepsNodes, KeepsWritten, PassesAll, UpTo, UpToOne, WritesInstance, WritesNode, noted, NestsNoMore, AllAreWritten};
+ghost use Rattle.wac_graph_encode.specs.Ready.{AddsSource, AllStand, AllStandUnder, ArePlacedAt, AreThere, CanBeAlias, CanBePassed, HasNeeded};
+ghost use Rattle.wac_graph_encode.specs.Ready.{HasPlace, IsPlacedAt, IsReady, IsReadyWith, IsUnsorted, NeededStand, StandsUnder};
+ghost use Rattle.wac_graph_encode.specs.Standing.{written_under};
+ghost use Rattle.wac_graph_encode.specs.Writing.{Finishes, AddsArgument, AddsExport, AddsExports, AddsAt, AddsInOrder, other_exports, AddsGiven, AddsNeeded, AddsOnly, AreGivenIn, Below, GivesUnder, IsAliasAt, IsSameRoot, KeepsNodes, KeepsWritten, PassesAll, UpTo, UpToOne, WritesInstance, WritesNode, noted, outer_in, NestsNoMore, AllAreWritten};
 
 use crate::declarations::push_export;
 use crate::exports::export_order;
@@ -19,21 +20,22 @@ use crate::labels::names_of_nodes;
 use crate::root::Root;
 use indexmap::IndexMap;
 use std::alloc::{AllocError, Global};
+use std::mem;
 use wac_graph_asks::nodes::{Arguments, import_name, kind_of, package_of, world_at};
 use wac_graph_bytes::{Entry, NamedIndex, Sort, SortNames};
 use wac_graph_core::{CompositionGraph, NodeId, PackageId};
 use wac_graph_scopes::imports::SortIndex;
 use wac_types_base::{ItemKind, NamedMap, Types, WorldId};
-use wac_types_parts::called::Called;
-use wac_types_parts::maps::insert_under;
 use wac_types_parts::parts::{import_at, import_count};
 
 /// The entries so far, and what stands for nodes.
 pub(crate) struct Wired<'a> {
     alloc: Global,
     graph: &'a CompositionGraph,
-    /// What stands for outer imports, by the names under which they are asked for.
-    outers: NamedMap<SortIndex>,
+    /// The places of outer imports, by the names under which they are asked for.
+    places: &'a NamedMap<usize>,
+    /// What is written of them, in their order.
+    imports: Vec<Option<SortIndex>>,
     pub root: Root,
 }
 
@@ -42,7 +44,8 @@ impl Drop for Wired<'_> {
         let Wired {
             alloc: _,
             graph: _,
-            outers: _,
+            places: _,
+            imports: _,
             root: _,
         } = self;
     }
@@ -84,39 +87,6 @@ fn place_at(imports: &[Option<SortIndex>], at: usize) -> SortIndex
         Some(place) => place,
         None => unreachable!(),
     }
-}
-
-/// Adds what is written of an outer import, under the name by which it is asked for.
-fn add_outer(
-    alloc: Global,
-    one: &Called,
-    imports: &[Option<SortIndex>],
-    outers: &mut NamedMap<SortIndex>,
-) -> Result<(), AllocError>
-    requires { IsPlacedAt imports.now one.now.at }
-    ensures adds { OnOk result (AddsCalled one.now imports.now outers.old outers.new) }
-    ensures names { OnOk result (AddsNames (one.now.name ∷ []) (names_of outers.old) (names_of outers.new)) }
-{
-    let place = place_at(imports, one.at);
-    insert_under(alloc, outers, one.name.as_str(), place)
-}
-
-/// Adds what stands for the outer imports, by the names under which they are asked for.
-fn add_outers(
-    alloc: Global,
-    called: &[Called],
-    imports: &[Option<SortIndex>],
-    outers: &mut NamedMap<SortIndex>,
-) -> Result<(), AllocError>
-    requires none { outers.old ≡ [] }
-    requires placed { ArePlacedAt imports.now called.now }
-    ensures called { OnOk result (AreCalled called.now imports.now outers.new) }
-    ensures names { OnOk result (AddsNames (called_names called.now) (names_of outers.old) (names_of outers.new)) }
-{
-    for one in called {
-        add_outer(alloc, one, imports, outers)?;
-    }
-    Ok(())
 }
 
 /// Adds a node.
@@ -183,7 +153,8 @@ fn push_argument(
 #[derive(Clone, Copy)]
 struct Standing<'a> {
     nodes: &'a IndexMap<NodeId, SortIndex>,
-    outers: &'a NamedMap<SortIndex>,
+    places: &'a NamedMap<usize>,
+    imports: &'a [Option<SortIndex>],
 }
 
 /// What stands for a node.
@@ -198,24 +169,24 @@ fn place_of(nodes: &IndexMap<NodeId, SortIndex>, node: NodeId) -> SortIndex
 }
 
 /// What stands for an outer import, by a name under which it is asked for.
-fn place_under(outers: &NamedMap<SortIndex>, name: &str) -> SortIndex
-    requires { Among name.now (names_of outers.now) }
-    ensures { value_at outers.now name.now ≡ Some result }
+fn place_under(places: &NamedMap<usize>, imports: &[Option<SortIndex>], name: &str) -> SortIndex
+    requires { IsSome (written_under places.now imports.now name.now) }
+    ensures { written_under places.now imports.now name.now ≡ Some result }
 {
-    match outers.get(name) {
-        Some(place) => *place,
+    match places.get(name) {
+        Some(at) => place_at(imports, *at),
         None => unreachable!(),
     }
 }
 
 /// What is passed to an instance under a name.
 fn argument(standing: Standing<'_>, bound: &Arguments, name: &str) -> SortIndex
-    requires { StandsUnder standing.outers.now standing.nodes.now.entries bound.now name.now }
+    requires { StandsUnder (outer_in standing) standing.nodes.now.entries bound.now name.now }
     ensures { GivesUnder standing.entry bound.now name.now result }
 {
     match bound.get(name) {
         Some(argument) => place_of(standing.nodes, argument),
-        None => place_under(standing.outers, name),
+        None => place_under(standing.places, standing.imports, name),
     }
 }
 
@@ -227,7 +198,7 @@ fn push_given(
     name: &str,
     arguments: &mut Vec<NamedIndex>,
 ) -> Result<(), AllocError>
-    requires { StandsUnder standing.outers.now standing.nodes.now.entries bound.now name.now }
+    requires { StandsUnder (outer_in standing) standing.nodes.now.entries bound.now name.now }
     ensures { OnOk result (AddsGiven standing.entry bound.now name.now arguments.old.items arguments.new.items) }
 {
     let place = argument(standing, bound, name);
@@ -244,7 +215,7 @@ fn push_arguments(
     arguments: &mut Vec<NamedIndex>,
 ) -> Result<(), AllocError>
     requires none { arguments.old.items ≡ [] }
-    requires stand { AllStandUnder types.now world standing.outers.now standing.nodes.now.entries bound.now }
+    requires stand { AllStandUnder types.now world (outer_in standing) standing.nodes.now.entries bound.now }
     ensures given { OnOk result (AreGivenIn types.now world standing.entry bound.now arguments.new.items) }
     ensures distinct { AreDistinct (names_of (imports_of types.now world)) }
 {
@@ -264,7 +235,7 @@ fn arguments_in(
     standing: Standing<'_>,
     bound: &Arguments,
 ) -> Result<Vec<NamedIndex>, AllocError>
-    requires { AllStandUnder types.now world standing.outers.now standing.nodes.now.entries bound.now }
+    requires { AllStandUnder types.now world (outer_in standing) standing.nodes.now.entries bound.now }
     ensures given { IfOk result (λ v. AreGivenIn types.now world standing.entry bound.now v.items) }
     ensures distinct { AreDistinct (names_of (imports_of types.now world)) }
 {
@@ -366,15 +337,20 @@ fn push_exports(
 
 impl<'a> Wired<'a> {
     /// Nothing is written yet.
-    pub(crate) fn new(alloc: Global, graph: &'a CompositionGraph) -> Self
+    pub(crate) fn new(
+        alloc: Global,
+        graph: &'a CompositionGraph,
+        places: &'a NamedMap<usize>,
+    ) -> Self
         ensures graph { result.graph.now ≡ graph.now }
-        ensures outers { result.outers ≡ [] }
+        ensures places { result.places.now ≡ places.now }
         ensures bare { IsBare result.root }
     {
         Wired {
             alloc,
             graph,
-            outers: NamedMap::new(alloc),
+            places,
+            imports: Vec::new(alloc),
             root: Root::new(alloc),
         }
     }
@@ -433,7 +409,8 @@ impl<'a> Wired<'a> {
             Some(world) => {
                 let standing = Standing {
                     nodes: &self.root.nodes,
-                    outers: &self.outers,
+                    places: self.places,
+                    imports: &self.imports,
                 };
                 arguments_in(self.alloc, self.graph.types(), world, standing, bound)
             }
@@ -470,7 +447,7 @@ impl<'a> Wired<'a> {
     {
         self.graph.see_sound();
         if let Some(name) = import_name(self.graph, node) {
-            return Ok(place_under(&self.outers, name));
+            return Ok(place_under(self.places, &self.imports, name));
         }
         match package_of(self.graph, node) {
             Some(id) => self.instance(id, bound),
@@ -585,15 +562,15 @@ impl<'a> Wired<'a> {
     }
 
     /// Writes all that stands behind the root's types and imports; the names of nodes.
-    pub(crate) fn write_all(&mut self, called: &[Called]) -> Result<Vec<SortNames>, AllocError>
-        requires none { self.old.outers ≡ [] }
-        requires placed { ArePlacedAt self.old.root.imports.items called.now }
-        requires ready { IsReadyWith self.old.graph.now (called_names called.now) self.old.root }
-        ensures finishes { Finishes called.now self.old self.new result }
+    pub(crate) fn write_all(&mut self) -> Result<Vec<SortNames>, AllocError>
+        requires placed { ArePlacedAt self.old.root.imports.items self.old.places.now }
+        requires ready { IsReadyWith self.old.graph.now (HasPlace self.old.places.now) self.old.root }
+        ensures finishes { Finishes self.old self.new result }
         ensures nests { OnOk result (NestsNoMore self.old.root self.new.root) }
     {
         self.graph.see_sound();
-        add_outers(self.alloc, called, &self.root.imports, &mut self.outers)?;
+        let none = Vec::new(self.alloc);
+        self.imports = mem::replace(&mut self.root.imports, none);
         self.write_nodes()?;
         let Root {
             entries,

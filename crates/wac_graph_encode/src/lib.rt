@@ -18,7 +18,10 @@ mod world;
 
 pub use encode::EncodeGraph;
 pub use laws::{
-    finished_entries_are_wired, refused_instances_are_unwritable, refused_is_unwritable,
+    accepted_imports_give, each_source_has_its_turn, finished_entries_are_wired,
+    outer_imports_are_found, outer_imports_give, plain_order_is_that_of_causes,
+    refused_beside_is_unwritable, refused_imports_are_unwritable, refused_instances_are_unwritable,
+    refused_is_unwritable, standing_sources_come_before,
 };
 pub use options::{EncodeOptions, Encoded};
 pub use wac_graph_asks::{asks_once_are_all_asks, first_name_of_a_definition, graphs_are_composed};

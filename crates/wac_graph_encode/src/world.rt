@@ -10,8 +10,8 @@ ghost use Rattle.wac_graph_core.specs.Edges.{HasAlias};
 ghost use Rattle.wac_graph_core.specs.Graph.{ContainsNode};
 ghost use Rattle.wac_types_parts.specs.Parts.{exports_of, imports_of};
 ghost use Rattle.wac_graph_encode.specs.Encoding.{HasTrueWorld};
-ghost use Rattle.wac_graph_encode.specs.Worlds.{AddsExported, AreCalledTypes, AreCopies, AreDefinitionTypes, AreExported, IsToHandOut, IsWorldMade, NotesDefinition};
-ghost use Rattle.wac_graph_encode.specs.Worlds.{IsUsedWorld, KnowsFinals, TellsCalled, TellsCopied, TellsExported, TellsFinal, with_import};
+ghost use Rattle.wac_graph_encode.specs.Worlds.{AddsExported, AreCopies, AreDefinitionTypes, AreExported, IsToHandOut, IsWorldMade, NotesDefinition};
+ghost use Rattle.wac_graph_encode.specs.Worlds.{IsUsedWorld, KnowsFinals, TellsCopied, TellsExported, TellsFinal, outer_type, with_import};
 
 use crate::copying::Copies;
 use crate::without_uses::handed_out;
@@ -22,56 +22,22 @@ use wac_graph_asks::nodes::{import_name, kind_of};
 use wac_graph_asks::outers::Outers;
 use wac_graph_core::{CompositionGraph, NodeId};
 use wac_types_base::{ItemKind, NamedMap, Types, World, WorldId};
-use wac_types_parts::called::Called;
 use wac_types_parts::maps::insert_under;
 use wac_types_parts::parts::{export_named, import_at, import_count};
 
-/// The types of outer imports, by the names under which they are asked for, and of definitions as they are written.
-struct Finals {
-    outers: NamedMap<ItemKind>,
+/// The outer imports, and the types of definitions as they are written.
+struct Finals<'a> {
+    outers: &'a Outers,
     definitions: IndexMap<NodeId, ItemKind>,
 }
 
-impl Drop for Finals {
+impl Drop for Finals<'_> {
     fn drop(self) {
         let Finals {
             outers: _,
             definitions: _,
         } = self;
     }
-}
-
-/// Adds the type of an outer import, by the name under which it is asked for.
-fn tell_outer(
-    alloc: Global,
-    types: &Types,
-    world: WorldId,
-    called: &Called,
-    told: &mut NamedMap<ItemKind>,
-) -> Result<(), AllocError>
-    ensures { OnOk result (TellsCalled types.now world called.now told.old told.new) }
-{
-    match import_at(types, world, called.at) {
-        Some(import) => insert_under(alloc, told, called.name.as_str(), import.kind),
-        None => Ok(()),
-    }
-}
-
-/// Adds the types of outer imports, by the names under which they are asked for.
-fn tell_outers(
-    alloc: Global,
-    types: &Types,
-    world: WorldId,
-    called: &[Called],
-    told: &mut NamedMap<ItemKind>,
-) -> Result<(), AllocError>
-    requires { told.old ≡ [] }
-    ensures { OnOk result (AreCalledTypes types.now world called.now told.new) }
-{
-    for one in called {
-        tell_outer(alloc, types, world, one, told)?;
-    }
-    Ok(())
 }
 
 /// Adds the written type of a definition, if it has one of its own.
@@ -105,25 +71,22 @@ fn tell_definitions(
 }
 
 /// The types of outer imports and definitions.
-fn finals_of(
+fn finals_of<'a>(
     graph: &CompositionGraph,
     types: &Types,
-    outers: &Outers,
+    outers: &'a Outers,
     definitions: &[Definition],
-) -> Result<Finals, AllocError>
+) -> Result<Finals<'a>, AllocError>
     requires { IsToHandOut graph.now types.now outers.now definitions.now }
     ensures { IfOk result (KnowsFinals graph.now types.now) }
 {
     graph.see_sound();
     graph.types().see_acyclic();
     types.see_acyclic();
-    let alloc = graph.alloc();
-    let mut imports = NamedMap::new(alloc);
-    tell_outers(alloc, types, outers.world, &outers.called, &mut imports)?;
-    let mut written = IndexMap::new(alloc);
+    let mut written = IndexMap::new(graph.alloc());
     tell_definitions(definitions, &mut written)?;
     Ok(Finals {
-        outers: imports,
+        outers,
         definitions: written,
     })
 }
@@ -139,11 +102,24 @@ fn export_of(types: &Types, kind: ItemKind, name: &str) -> Option<ItemKind>
     }
 }
 
+/// The type of the outer import that is asked for under a name.
+fn type_under(types: &Types, outers: &Outers, name: &str) -> Option<ItemKind>
+    ensures { result ≡ outer_type types.now outers.now name.now }
+{
+    match outers.places.get(name) {
+        Some(at) => match import_at(types, outers.world, *at) {
+            Some(import) => Some(import.kind),
+            None => None,
+        },
+        None => None,
+    }
+}
+
 /// The type of an import or a definition; none of another node.
 fn type_told(
     graph: &CompositionGraph,
     types: &Types,
-    finals: &Finals,
+    finals: &Finals<'_>,
     node: NodeId,
 ) -> Option<ItemKind>
     requires finals { KnowsFinals graph.now types.now finals.now }
@@ -152,9 +128,9 @@ fn type_told(
 {
     graph.see_sound();
     graph.types().see_acyclic();
-    let _ = types;
+    types.see_acyclic();
     match import_name(graph, node) {
-        Some(name) => finals.outers.get(name).copied(),
+        Some(name) => type_under(types, finals.outers, name),
         None => finals.definitions.get(&node).copied(),
     }
 }
@@ -164,7 +140,7 @@ fn type_told(
 fn final_type(
     graph: &CompositionGraph,
     types: &Types,
-    finals: &Finals,
+    finals: &Finals<'_>,
     node: NodeId,
 ) -> Option<ItemKind>
     requires { KnowsFinals graph.now types.now finals.now }
@@ -209,7 +185,7 @@ fn copied_type(
 fn exported_type(
     graph: &CompositionGraph,
     types: &mut Types,
-    finals: &Finals,
+    finals: &Finals<'_>,
     copies: &mut Copies,
     node: NodeId,
 ) -> Result<Option<ItemKind>, AllocError>
@@ -230,7 +206,7 @@ fn exported_type(
 fn add_export(
     graph: &CompositionGraph,
     types: &mut Types,
-    finals: &Finals,
+    finals: &Finals<'_>,
     copies: &mut Copies,
     exports: &mut NamedMap<ItemKind>,
     export: (&str, NodeId),
@@ -254,7 +230,7 @@ fn add_export(
 fn add_exports(
     graph: &CompositionGraph,
     types: &mut Types,
-    finals: &Finals,
+    finals: &Finals<'_>,
     copies: &mut Copies,
     exports: &mut NamedMap<ItemKind>,
 ) -> Result<(), AllocError>

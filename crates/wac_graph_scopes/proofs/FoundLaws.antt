@@ -10,16 +10,15 @@ use Rattle.wac_types_base.specs.Entries.{Name, value_at}
 use Rattle.wac_types_base.specs.Parts.{identifier_in}
 use Rattle.wac_types_base.proofs.Lists.{name_tested, value_both}
 use Rattle.wac_types_base.proofs.Looked.{take-one_more}
-use Rattle.std.proofs.lemmas.List.{map_push, length-take-le}
+use Rattle.std.proofs.lemmas.List.{length-take-le}
 use Rattle.std.proofs.lemmas.Option.{slice_get_within}
-use Rattle.wac_types_parts.specs.declared.called.Called.{Called}
 use Rattle.wac_graph_scopes.specs.declared.imports.Importing.{Importing}
 use Rattle.wac_graph_scopes.specs.declared.imports.ImportScope.{ImportScope}
 use Rattle.wac_types_parts.specs.declared.parts.Use.{Use}
 use Rattle.wac_types_parts.specs.Parts.{interface_in, exports_of, world_uses_of, IsUseNamed, used_if, taken_in}
 use Rattle.wac_graph_scopes.specs.Used.{IsUsedAs}
 use Rattle.wac_graph_scopes.specs.Items.{Never}
-use Rattle.wac_graph_scopes.specs.Imports.{IsUseOf, IsInstanceImport, called_places, own_places, FindsFirst, IsImportedAs, IsFoundFor}
+use Rattle.wac_graph_scopes.specs.Imports.{IsUseOf, IsInstanceImport, own_places, FindsFirst, IsImportedAs, IsFoundFor}
 
 or_any : (o p : Option ℕ) → is_some o ≡ true → o ≡ option_or o p
 or_any (Some x) p e = refl
@@ -55,10 +54,8 @@ own_places_next old ns i n e =
     append_assoc old (own_places 0 (take i ns)) ((n, i) ∷ [])
     ∙ ap (λ l. old ++ l) (ap (λ k. own_places 0 (take i ns) ++ (n, k) ∷ []) (sym len) ∙ sym (own_next 0 (take i ns) n) ∙ ap (own_places 0) (sym (take-one_more ns i n e)))
 
-pub called_next : (old : List (Name × ℕ)) (cs : List Called) (i : ℕ) (c : Called) → slice_get cs i ≡ Some c → (old ++ called_places (take i cs)) ++ (c.name, c.at) ∷ [] ≡ old ++ called_places (take (i + 1) cs)
-called_next old cs i c e =
-    append_assoc old (called_places (take i cs)) ((c.name, c.at) ∷ [])
-    ∙ ap (λ l. old ++ l) (sym (map_push (λ (x : Called). (x.name, x.at)) (take i cs) c) ∙ ap called_places (sym (take-one_more cs i c e)))
+pub asked_next : (old ps : List (Name × ℕ)) (i : ℕ) (x : Name × ℕ) → slice_get ps i ≡ Some x → (old ++ take i ps) ++ x ∷ [] ≡ old ++ take (i + 1) ps
+asked_next old ps i x e = append_assoc old (take i ps) (x ∷ []) ∙ ap (λ l. old ++ l) (sym (take-one_more ps i x e))
 
 -- ---- types that are used
 

@@ -1,5 +1,5 @@
 -- What holds of the imports and exports of a world while they are written.
-use Rattle.std.specs.Prelude.{◌≡◌, ℕ, ◌+◌, List, [], ◌∷◌, ◌++◌, length, Result, Option, Some, None, slice_get, Bool, true, false, IfOk, IfSome, option_to_list, map, ◌⊎◌}
+use Rattle.std.specs.Prelude.{◌≡◌, ℕ, ◌+◌, List, [], ◌∷◌, ◌++◌, length, Result, Option, Some, None, slice_get, Bool, true, false, IfOk, IfSome, option_to_list, ◌⊎◌}
 use Rattle.std.specs.declared.alloc.Global.{Global}
 use Rattle.std.specs.declared.vec.Vec.{Vec}
 use Rattle.wac_types_base.specs.declared.ids.InterfaceId.{InterfaceId}
@@ -25,7 +25,6 @@ use Rattle.wac_graph_scopes.specs.declared.items.ItemScope.{ItemScope}
 use Rattle.wac_graph_scopes.specs.declared.imports.Importing.{Importing}
 use Rattle.wac_graph_scopes.specs.declared.imports.SortIndex.{SortIndex}
 use Rattle.wac_graph_scopes.specs.declared.imports.ImportScope.{ImportScope}
-use Rattle.wac_types_parts.specs.declared.called.Called.{Called}
 use Rattle.wac_graph_scopes.specs.declared.imports.TakenUse.{TakenUse}
 use Rattle.wac_types_parts.specs.declared.parts.Item.{Item}
 use Rattle.wac_types_parts.specs.declared.parts.Use.{Use}
@@ -102,10 +101,6 @@ NotGiven a at n item r =
 
 -- ---- how imports are found
 
--- the places of the imports under the names under which they are asked for
-abbrev pub called_places : List Called → List (Name × ℕ)
-called_places cs = map (λ c. (c.name, c.at)) cs
-
 -- the places of names, from this place on
 abbrev pub own_places : ℕ → List Name → List (Name × ℕ)
 own_places at [] = []
@@ -113,7 +108,7 @@ own_places at (n ∷ ns) = (n, at) ∷ own_places (at + 1) ns
 
 -- the places under the names under which imports are asked for, and then under their own
 abbrev pub import_places : Importing → List (Name × ℕ)
-import_places a = called_places a.called.now ++ own_places 0 (names_of (all_imports a))
+import_places a = a.places.now ++ own_places 0 (names_of (all_imports a))
 
 -- of each name the first place is found
 abbrev pub FindsFirst : List (Name × ℕ) → List (Name × ℕ) → Type 0

@@ -2,7 +2,7 @@
 
 ghost use Rattle.std.specs.Prelude.{◌≡◌, ◌++◌, ◌∷◌, [], length, OnOk};
 ghost use Rattle.wac_types_base.specs.Entries.{names_of, AreDistinct};
-ghost use Rattle.wac_graph_scopes.specs.Imports.{all_imports, all_exports, NoneWritten, called_places, own_places, FindsFirst};
+ghost use Rattle.wac_graph_scopes.specs.Imports.{all_imports, all_exports, NoneWritten, own_places, FindsFirst};
 
 use crate::imports::{Importing, SortIndex};
 use std::alloc::{AllocError, Global};
@@ -59,15 +59,16 @@ pub(crate) fn add_export_places(
 }
 
 /// Adds the places of the imports under the names under which they are asked for.
-pub(crate) fn add_called(
+pub(crate) fn add_asked_names(
     alloc: Global,
     all: Importing<'_>,
     found: &mut NamedMap<usize>,
 ) -> Result<(), AllocError>
-    ensures { OnOk result (FindsFirst found.new (found.old ++ called_places all.entry.called.now)) }
+    ensures { OnOk result (FindsFirst found.new (found.old ++ all.entry.places.now)) }
 {
-    for called in all.called {
-        add_place(alloc, found, called.name.as_str(), called.at)?;
+    for at in 0..all.places.len() {
+        let (name, place) = all.places.entry(at);
+        add_place(alloc, found, name, *place)?;
     }
     Ok(())
 }

@@ -20,11 +20,11 @@ ghost use Rattle.wac_graph_scopes.specs.ItemRefusals.{RefusedTypeApart, RefusedI
 ghost use Rattle.wac_graph_scopes.specs.InstanceRefusals.{LacksIdentifier, UseRefused, LacksIdentifiers, RefusesInstance, RefusesOther};
 ghost use Rattle.wac_graph_scopes.specs.Imports.{all_imports, all_exports, IsUseOf, IsGivenBy, NoneWritten, IsInstanceImport, IsPlaced, GivesTaken, NotGiven, FindsSource, AddsUsed, AliasesUse, KeepsWorld, DescribesImport, DescribesThere, DescribesOther, MayDescribe};
 ghost use Rattle.wac_graph_scopes.specs.ImportRefusals.{IsGivenUnnamed, UsesUnnamed, RefusesImport, RefusesImportPlaced, RefusesExporting};
-ghost use Rattle.wac_graph_scopes.specs.Imports.{called_places, own_places, import_places, FindsFirst, IsImportedAs, IsFoundFor, FindsImported};
+ghost use Rattle.wac_graph_scopes.specs.Imports.{import_places, FindsFirst, IsImportedAs, IsFoundFor, FindsImported};
 ghost use Rattle.wac_graph_scopes.specs.Imports.{ImportsDescribed, ImportsAt, WritesImport, WritesInOrder, ExportsIndexed, BeginsWorld};
 
 use crate::error::WriteError;
-use crate::import_places::{add_called, add_empty, add_places};
+use crate::import_places::{add_asked_names, add_empty, add_places};
 use crate::items::{
     Around, ItemScope, add_name, describe, export_item, export_resource, exports_taken, find_used,
     push_func_type,
@@ -37,7 +37,6 @@ use std::alloc::{AllocError, Global};
 use std::mem;
 use wac_graph_bytes::{Declaration, Description, Sort};
 use wac_types_base::{InterfaceId, ItemKind, NamedMap, Names, Type, Types, UsedType, WorldId};
-use wac_types_parts::called::Called;
 use wac_types_parts::parts::{
     Item, Use, export_at, export_count, identifier, import_at, import_count, interface_of,
     is_fresh, taken, use_at, use_count, use_named, world_export_at, world_export_count,
@@ -69,12 +68,12 @@ pub(crate) struct TakenUse<'a> {
     pub item: ItemKind,
 }
 
-/// A world whose imports are written, and by which other names they are asked for.
+/// A world whose imports are written, and their places by other names under which they are asked for.
 #[derive(Clone, Copy)]
 pub struct Importing<'a> {
     pub types: &'a Types,
     pub world: WorldId,
-    pub called: &'a [Called],
+    pub places: &'a NamedMap<usize>,
     /// What imports are used types, beside those that the world uses itself.
     pub uses: &'a NamedMap<UsedType>,
     /// Whether exports are over the interfaces that the world exports, where it exports those that they use.
@@ -272,7 +271,7 @@ impl ImportScope {
         ensures found { OnOk result (FindsFirst self.new.found (self.old.found ++ import_places all.entry)) }
         ensures many { OnOk result (length self.new.places.items ≡ length (all_imports all.entry)) }
     {
-        add_called(alloc, all, &mut self.found)?;
+        add_asked_names(alloc, all, &mut self.found)?;
         add_places(alloc, all, &mut self.found)?;
         self.places = Vec::new(alloc);
         add_empty(import_count(all.types, all.world), &mut self.places)

@@ -411,11 +411,12 @@ fn begun(alloc: Global, all: Importing<'_>) -> Result<ImportScope, AllocError>
 fn package_type(alloc: Global, types: &Types, id: WorldId) -> Result<Vec<Declaration>, WriteError>
     ensures { MakesComponent types.now id result }
 {
+    let places = NamedMap::new(alloc);
     let uses = NamedMap::new(alloc);
     let all = Importing {
         types,
         world: id,
-        called: &[],
+        places: &places,
         uses: &uses,
         over_exports: true,
     };
@@ -432,11 +433,12 @@ pub(crate) fn component_type(
 ) -> Result<Vec<Declaration>, WriteError>
     ensures { MakesComponent types.now id result }
 {
+    let places = NamedMap::new(alloc);
     let uses = NamedMap::new(alloc);
     let all = Importing {
         types,
         world: id,
-        called: &[],
+        places: &places,
         uses: &uses,
         over_exports: false,
     };

@@ -9,6 +9,7 @@ use Rattle.wac_types_base.specs.Entries.{value_at, names_of}
 use Rattle.wac_types_base.specs.Graph.{Among}
 use Rattle.wac_types_base.specs.Stated.{Stated, promote, imports_of}
 use Rattle.wac_types_names.specs.Keys.{Key}
+use Rattle.wac_composition.specs.Composition.{imported, defined}
 use Rattle.wac_parser_tree.specs.Trees as t
 use Rattle.wac_parser_tree.specs.Trees.{Span}
 use Rattle.wac_parser_tree.specs.Accessors.{argument_name_span as argument_span, postfix_expr_span as postfix_span, primary_expr_span as primary_span}
@@ -18,7 +19,7 @@ use Rattle.wac_parser_refusals.specs.Causes.{Answer, pure, unless_clear, present
 use Rattle.wac_parser_declare.specs.Packages.{Content}
 use Rattle.wac_parser_declare.specs.Scope.{bind, world_of_package}
 use Rattle.wac_parser_declare.specs.Worlds.{type_statement}
-use Rattle.wac_parser_resolve.specs.Ascribing.{imported, defined, Denoted, Made, Import, State, start, root_scope, context, denoted_by, bound, is_projection, same_origin, speak_of, worlds_of}
+use Rattle.wac_parser_resolve.specs.Ascribing.{Denoted, Made, Import, State, start, root_scope, context, denoted_by, bound, is_projection, same_origin, speak_of, worlds_of}
 use Rattle.wac_parser_resolve.specs.Choosing.{greatest_on}
 use Rattle.wac_parser_resolve.specs.Denoting.{Given, needs_instance, export_named, access_by, spoken, access, accesses, add_given, inferred_name, argument_name, left_names, spread_given, spread_all, spread_one, spreads_of, argument_fits, complete, is_filled, is_last, with_made, finished, key_named, version_key, new_package, denote, primary, nested, new_instance, arguments, one_argument, named_argument}
 use Rattle.wac_types_names.specs.InterfaceNames.{is_exportable, is_extern_name}

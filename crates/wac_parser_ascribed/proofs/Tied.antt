@@ -15,19 +15,18 @@ use Rattle.wac_graph_core.specs.Walking.{first_argument, first_source}
 use Rattle.wac_graph_core.proofs.Found.{argument_found, no_argument, source_found}
 use Rattle.wac_graph_core.proofs.Rising.{rises_apart}
 use Rattle.wac_composition.specs.Composition as c
-use Rattle.wac_composition.specs.Composition.{Composition, Placed}
+use Rattle.wac_composition.specs.Composition.{Origin, imported, instance, projected, defined, Composition, Placed}
 use Rattle.wac_composition.specs.Alike.{IsSameMade, AreSameMade, IsAlike}
 use Rattle.wac_composition.specs.Renaming.{origin_renamed, placed_renamed, made_renamed, renamed}
 use Rattle.wac_graph_asks.specs.Graphs.{item_of, item_at, origin_of, arguments_to, first_export, import_by, made_with, definition_by, alias_with, composition_of}
 use Rattle.wac_graph_asks.proofs.Origins.{alias_is, argument_is, made_of, value_mapped}
 use Rattle.wac_parser_tree.specs.Trees.{Span}
 use Rattle.wac_parser_declare.specs.Packages.{Content}
-use Rattle.wac_parser_resolve.specs.Ascribed.{Asker, by_import, by_definition, origin_in, argument_in, made_in, numbered, placed_import, placed_definition, alias_in, composition, said_export}
-use Rattle.wac_parser_resolve.specs.Ascribing.{Origin, imported, instance, projected, defined, Denoted, Made, Import, Bound, State, own_name}
+use Rattle.wac_parser_resolve.specs.Ascribed.{Asker, by_import, by_definition, argument_in, made_in, numbered, placed_import, placed_definition, alias_in, composition, said_export}
+use Rattle.wac_parser_resolve.specs.Ascribing.{Denoted, Made, Import, Bound, State, own_name}
 use Rattle.wac_parser_resolve.specs.Holding.{InTurn, HasItem, IsNode, Denotes, IsMade, IsNamed}
 use Rattle.wac_parser_resolve.specs.InDocuments.{IsBuilt}
 use Rattle.wac_parser_resolve.specs.Resolved.{Places}
-use Rattle.wac_parser_resolve.specs.Later.{first_name}
 use Rattle.wac_parser_resolve.specs.Said.{IsAsked, IsDeclared}
 use Rattle.wac_parser_resolve.proofs.Nodes.{instance_role}
 use Rattle.wac_parser_resolve.proofs.Sound.{Sound, HasThat}
@@ -35,15 +34,7 @@ use Rattle.wac_parser_resolve.proofs.Turns.{slice_among, turn_back, turn_map, tu
 use Rattle.wac_parser_ascribed.specs.Tied.{place_of, asker_by, asker_of, partner}
 use Rattle.wac_parser_ascribed.proofs.Places.{place_is, beside_none, turn_beside, turn_named, turn_mapped}
 use Rattle.wac_parser_ascribed.proofs.Listing.{Makes, made_in_turn}
-use Rattle.wac_parser_ascribed.proofs.Origins.{has_states, item_there, item_is, origin_back}
-
-first_named : (es : List (Name × ℕ)) (k : ℕ) (n : Name) → first_name es k ≡ Some n → first_export es k ≡ n
-first_named [] k n e = absurd (none-some _ e)
-first_named (x ∷ es) k n e = by (x.1 == k) e (first_named es k n)
-  where
-    by : (b : Bool) → cond b (Some x.0) (first_name es k) ≡ Some n → (first_name es k ≡ Some n → first_export es k ≡ n) → cond b x.0 (first_export es k) ≡ n
-    by true e rest = same_Some _ _ e
-    by false e rest = rest e
+use Rattle.wac_parser_ascribed.proofs.Origins.{first_named, has_states, item_there, item_is, origin_back}
 
 module _ (g : Graph) (sound : IsGraph g) (acyclic : IsAcyclic g.types) {places : Places} (s : State) (b : IsBuilt g places s) (ps : List (Key × Content)) (said : Sound ps s) where
   -- the nodes of imports and of instances, in order
@@ -182,7 +173,7 @@ module _ (g : Graph) (sound : IsGraph g) (acyclic : IsAcyclic g.types) {places :
   abbrev alias_made : ℕ × NodeData → Option (Name × Stated)
   alias_made e = alias_with g e.1 (first_source g.edges e.0)
 
-  alias_named : (o : Origin) (k i : ℕ) (n : Name) → IsNode g ms o k → HasAlias g.edges i n k → n ≡ unwrap_or (own_name o) []
+  alias_named : (o : Origin ℕ) (k i : ℕ) (n : Name) → IsNode g ms o k → HasAlias g.edges i n k → n ≡ unwrap_or (own_name o) []
   alias_named (projected o m) k i n a h =
       let one : Some (a.0, m) ≡ Some (i, n) = sym (alias_is g sound acyclic a.0 k m a.3) ∙ alias_is g sound acyclic i k n h in
       sym (ap (λ (p : ℕ × Name). p.1) (same_Some _ _ one))
@@ -239,7 +230,7 @@ module _ (g : Graph) (sound : IsGraph g) (acyclic : IsAcyclic g.types) {places :
       λ j. (n.name j, from j, item j)
 
   all_exports : (xs : List (Name × Bound)) (es : List (Name × ℕ)) → ((x : Name × Bound) → Among x xs → HasThat s x.1.denoted) → InTurn (IsNamed g ms) xs es
-      → map (λ (e : Name × c.Origin ℕ × Stated). (e.0, origin_renamed number e.1, e.2)) (map (λ (e : Name × ℕ). (e.0, origin_of g e.1, item_at g e.1)) es) ≡ map said_export xs
+      → map (λ (e : Name × Origin ℕ × Stated). (e.0, origin_renamed number e.1, e.2)) (map (λ (e : Name × ℕ). (e.0, origin_of g e.1, item_at g e.1)) es) ≡ map said_export xs
   all_exports [] [] h t = refl
   all_exports [] (e ∷ es) h t = absurd t
   all_exports (x ∷ xs) [] h t = absurd t
@@ -269,14 +260,14 @@ module _ (g : Graph) (sound : IsGraph g) (acyclic : IsAcyclic g.types) {places :
       by (Some r) f = absurd (cc (v, a.arguments.only n r (subst (λ j. HasArgument g.edges j n r) (sym same) (argument_found g.edges k r n f))))
 
   passed_same : (i k : ℕ) (m : Made) (e : ℕ × Span) (of : Packaged) → e.0 ≡ k → slice_get s.made i ≡ Some m → IsMade g ms m e
-      → (n : Name) → value_at (map {B = Name × c.Origin ℕ} (λ (a : Name × c.Origin ℕ). (a.0, origin_renamed number a.1)) (map {B = Name × c.Origin ℕ} (λ (a : Name × ℕ). (a.0, origin_of g a.1)) (arguments_to g.edges k))) n ≡ value_at (map argument_in m.arguments) n
+      → (n : Name) → value_at (map {B = Name × Origin ℕ} (λ (a : Name × Origin ℕ). (a.0, origin_renamed number a.1)) (map {B = Name × Origin ℕ} (λ (a : Name × ℕ). (a.0, origin_of g a.1)) (arguments_to g.edges k))) n ≡ value_at (map argument_in m.arguments) n
   passed_same i k m e of same here a n =
-      value_mapped (origin_renamed number) (map {B = Name × c.Origin ℕ} (λ (a : Name × ℕ). (a.0, origin_of g a.1)) (arguments_to g.edges k)) n
+      value_mapped (origin_renamed number) (map {B = Name × Origin ℕ} (λ (a : Name × ℕ). (a.0, origin_of g a.1)) (arguments_to g.edges k)) n
       ∙ ap (option_map (origin_renamed number)) (argument_is g sound acyclic k n)
       ∙ by (value_at m.arguments n) refl
-      ∙ sym (value_mapped (λ (d : Denoted). origin_in d.origin) m.arguments n)
+      ∙ sym (value_mapped (λ (d : Denoted). d.origin) m.arguments n)
     where
-      by : (o : Option Denoted) → value_at m.arguments n ≡ o → option_map (origin_renamed number) (option_map (origin_of g) (first_argument g.edges k n)) ≡ option_map (λ (d : Denoted). origin_in d.origin) o
+      by : (o : Option Denoted) → value_at m.arguments n ≡ o → option_map (origin_renamed number) (option_map (origin_of g) (first_argument g.edges k n)) ≡ option_map (λ (d : Denoted). d.origin) o
       by None v = ap (λ (o : Option ℕ). option_map (origin_renamed number) (option_map (origin_of g) o)) (not_passed k m e same a n v)
       by (Some d) v =
           let p = passed_is k m e same a n d v in

@@ -32,7 +32,7 @@ use Rattle.wac_graph_asks.specs.Wirings.{IsGraphWiring}
 use Rattle.wac_graph_asks.proofs.Origins.{argument_is, denoted, given_is, made_of, package_stands, value_mapped}
 use Rattle.wac_parser_tree.specs.Trees.{Span}
 use Rattle.wac_parser_declare.specs.Packages.{Content}
-use Rattle.wac_parser_resolve.specs.Ascribed.{Asker, composition, made_in, numbered, origin_in}
+use Rattle.wac_parser_resolve.specs.Ascribed.{Asker, composition, made_in, numbered}
 use Rattle.wac_parser_resolve.specs.Ascribing.{Bound, Denoted, Made, State}
 use Rattle.wac_parser_resolve.specs.Holding.{InTurn, IsMade}
 use Rattle.wac_parser_resolve.specs.InDocuments.{IsBuilt}
@@ -115,17 +115,17 @@ module _ (g : Graph) (sound : IsGraph g) (acyclic : IsAcyclic g.types) {places :
   source_moved (c.instance k) = refl
   source_moved (c.projected o n) =
       ap (λ u. project u n) (source_moved o) ∙ sym (replace-project Outer (λ k. Inst (node k)) (source_of (asks_of (composition s)) o) n)
-  source_moved (c.defined x) = refl
+  source_moved (c.defined n x) = refl
 
   module _ (tag : Key → Tag) (W : Wiring ℕ) (is : IsGraphWiring g W) (V : Wiring ℕ) (v : IsTagged tag g W V) where
     -- ---- what an instance is given
 
     given_at : (first other : Key → Tag) (i k : ℕ) (m : Made) (e : ℕ × Span) → e.0 ≡ k → slice_get s.made i ≡ Some m → IsMade g nodes m e → (n : Name)
-        → source_for first (composition_of g) (option_map (origin_of g) (first_argument g.edges k n)) n ≡ rename node (source_for other (composition s) (option_map (λ (d : Denoted). origin_in d.origin) (value_at m.arguments n)) n)
+        → source_for first (composition_of g) (option_map (origin_of g) (first_argument g.edges k n)) n ≡ rename node (source_for other (composition s) (option_map (λ (d : Denoted). d.origin) (value_at m.arguments n)) n)
     given_at first other i k m e same here a n = by (value_at m.arguments n) refl
       where
         by : (o : Option Denoted) → value_at m.arguments n ≡ o
-            → source_for first (composition_of g) (option_map (origin_of g) (first_argument g.edges k n)) n ≡ rename node (source_for other (composition s) (option_map (λ (d : Denoted). origin_in d.origin) o) n)
+            → source_for first (composition_of g) (option_map (origin_of g) (first_argument g.edges k n)) n ≡ rename node (source_for other (composition s) (option_map (λ (d : Denoted). d.origin) o) n)
         by None v =
             ap (λ (o : Option ℕ). source_for first (composition_of g) (option_map (origin_of g) o) n) (not_passed g sound acyclic s b ps said k m e same a n v)
             ∙ ap Outer (sym (spelled n))
@@ -134,7 +134,7 @@ module _ (g : Graph) (sound : IsGraph g) (acyclic : IsAcyclic g.types) {places :
             let states = has_states g s d.origin d.item p.0 ((said.made i m here).has n d v) p.2.item in
             ap (λ (o : Option ℕ). source_for first (composition_of g) (option_map (origin_of g) o) n) p.1
             ∙ ap (source_of (asks_of (composition_of g))) (origin_is g sound acyclic nodes d.origin p.0 p.2.node states)
-            ∙ source_moved (origin_in d.origin)
+            ∙ source_moved d.origin
 
     -- the instance of a node, with the tag of its package
     abbrev IsInstanceOf : ℕ → ℕ → Made → Type 0
@@ -149,7 +149,7 @@ module _ (g : Graph) (sound : IsGraph g) (acyclic : IsAcyclic g.types) {places :
         ∙ ap (λ (w : Stated). cond (is_some (value_at (imports_of w) n)) (source_for (λ key. OfBytes a.of.bytes) (composition_of g) (value_at (made_of g sound acyclic k a.of).arguments n) n) Absent) a.world.same
         ∙ ap (λ (o : Option (c.Origin ℕ)). cond (is_some (value_at (imports_of m.world) n)) (source_for (λ key. OfBytes a.of.bytes) (composition_of g) o n) Absent) (argument_is g sound acyclic k n)
         ∙ passed (is_some (value_at (imports_of m.world) n)) _ _ (given_at (λ key. OfBytes a.of.bytes) tag i k m e same here a n)
-        ∙ ap (λ (o : Option (c.Origin ℕ)). rename node (cond (is_some (value_at (imports_of m.world) n)) (source_for tag (composition s) o n) Absent)) (sym (value_mapped (λ (d : Denoted). origin_in d.origin) m.arguments n)) in
+        ∙ ap (λ (o : Option (c.Origin ℕ)). rename node (cond (is_some (value_at (imports_of m.world) n)) (source_for tag (composition s) o n) Absent)) (sym (value_mapped (λ (d : Denoted). d.origin) m.arguments n)) in
         v.instances k a.of x.0 made x.1 ∙ (λ l. Some (record { tag = ap tag a.key l; args = λ n. args n l }))
       where
         passed : (t : Bool) (u v : Source ℕ) → u ≡ rename node v → cond t u Absent ≡ rename node (cond t v Absent)
@@ -198,7 +198,7 @@ module _ (g : Graph) (sound : IsGraph g) (acyclic : IsAcyclic g.types) {places :
         ∙ by (value_at s.exports n) (value_at g.exports n) refl refl (both_found g nodes s.exports g.exports n b.exports.are) ∙ sym (v.exports n)
       where
         by : (o : Option Bound) (p : Option ℕ) → value_at s.exports n ≡ o → value_at g.exports n ≡ p → AreFound g nodes o p
-            → rename node (export_source tag (composition s) (option_map (λ (d : Bound). origin_in d.denoted.origin) o)) ≡ W.exports n
+            → rename node (export_source tag (composition s) (option_map (λ (d : Bound). d.denoted.origin) o)) ≡ W.exports n
         by None None x y f = sym (is.no_export n y)
         by None (Some k) x y f = absurd f
         by (Some d) None x y f = absurd f
@@ -206,7 +206,7 @@ module _ (g : Graph) (sound : IsGraph g) (acyclic : IsAcyclic g.types) {places :
             let states = has_states g s d.denoted.origin d.denoted.item k (said.exports (n, d) (value_at-among s.exports n d x)) f.item in
             sym (denoted g sound acyclic k (W.exports n) (is.exported n k y)
             ∙ ap (source_of (asks_of (composition_of g))) (origin_is g sound acyclic nodes d.denoted.origin k f.node states)
-            ∙ source_moved (origin_in d.denoted.origin))
+            ∙ source_moved d.denoted.origin)
 
     same : Same composed V
     same = record {

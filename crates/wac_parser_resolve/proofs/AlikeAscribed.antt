@@ -37,7 +37,7 @@ origin_itself : (o : c.Origin ℕ) → origin_renamed itself o ≡ o
 origin_itself (c.imported n) = refl
 origin_itself (c.instance k) = refl
 origin_itself (c.projected o n) = ap (λ p. c.projected p n) (origin_itself o)
-origin_itself (c.defined x) = refl
+origin_itself (c.defined n x) = refl
 
 imports_bare : (is : List Import) → map placed_import (map bare_asked is) ≡ map (placed_renamed bare_asker) (map placed_import is)
 imports_bare [] = refl

@@ -9,6 +9,7 @@ use Rattle.wac_types_base.specs.Stated.{Stated, kind_of, exports_of, imports_of,
 use Rattle.wac_types_names.specs.Keys.{Key}
 use Rattle.wac_composition.specs.Tests.{fits}
 use Rattle.wac_composition.specs.Classes.{is_instance_kind}
+use Rattle.wac_composition.specs.Composition.{instance}
 use Rattle.wac_parser_tree.specs.Trees as t
 use Rattle.wac_parser_tree.specs.Trees.{Span}
 use Rattle.wac_parser_tree.specs.Bare.{nowhere, bare_ident, bare_package_name, bare_postfix, bare_expr, bare_primary, bare_new, bare_nested, bare_arguments, bare_argument, bare_named_argument, bare_argument_name}
@@ -19,7 +20,7 @@ use Rattle.wac_parser_refusals.specs.Causes.{Answer, ◌>>=◌, pure, present, e
 use Rattle.wac_parser_refusals.proofs.Alike.{IsAlike, both, neither, itself, AreSame, then_alike, next_alike, clear_alike, clear_same, needs_alike, present_same, each_alike, each_same, HoldsIn, front_holds, back_holds}
 use Rattle.wac_parser_declare.specs.Packages.{Content}
 use Rattle.wac_parser_declare.proofs.AlikeScopes.{IsSameIn, AreSameIn, package_alike}
-use Rattle.wac_parser_resolve.specs.Ascribing.{Denoted, Made, State, instance, worlds_of}
+use Rattle.wac_parser_resolve.specs.Ascribing.{Denoted, Made, State, worlds_of}
 use Rattle.wac_parser_resolve.specs.Choosing.{greatest_on}
 use Rattle.wac_parser_resolve.specs.Laws.{ChoosesTheSame}
 use Rattle.wac_parser_resolve.specs.Denoting.{needs_instance, export_by, export_named, access_by, access, accesses, Given, given_names, add_given, inferred_name, argument_name, left_names, spread_given, spread_all, spread_one, spreads_of, compared_by, argument_fits, none_missing, complete, is_filled, is_last, with_made, finished, version_key, under_key, new_package, denote, primary, nested, new_instance, arguments, one_argument, named_argument}

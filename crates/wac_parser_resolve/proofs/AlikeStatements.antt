@@ -7,6 +7,7 @@ use Rattle.wac_types_base.specs.Entries.{Name, value_at, names_of}
 use Rattle.wac_types_base.specs.Stated.{Stated, kind_of, promote, exports_of}
 use Rattle.wac_types_base.proofs.Stating.{value_with}
 use Rattle.wac_types_names.specs.Keys.{Key}
+use Rattle.wac_composition.specs.Composition.{imported, defined}
 use Rattle.wac_parser_tree.specs.Trees as t
 use Rattle.wac_parser_tree.specs.Trees.{Span}
 use Rattle.wac_parser_tree.specs.Bare.{nowhere, bare_ident, bare_package_path, bare_extern_name, bare_func, bare_inline_interface, bare_import_type, bare_import, bare_type_decl, bare_type_statement, bare_expr, bare_options, bare_statement, bare}
@@ -24,7 +25,7 @@ use Rattle.wac_parser_declare.proofs.AlikeTypes.{free_alike}
 use Rattle.wac_parser_declare.proofs.AlikeBodies.{inline_alike}
 use Rattle.wac_parser_declare.proofs.AlikeWorlds.{type_statement_alike}
 use Rattle.wac_parser_declare.proofs.Kept.{with_values-more}
-use Rattle.wac_parser_resolve.specs.Ascribing.{imported, defined, Denoted, Import, Bound, State, start, root_scope, worlds_of, context, bound, speak_of, is_own_definition}
+use Rattle.wac_parser_resolve.specs.Ascribing.{Denoted, Import, Bound, State, start, root_scope, worlds_of, context, bound, speak_of, is_own_definition}
 use Rattle.wac_types_names.specs.InterfaceNames.{is_exportable, is_extern_name}
 use Rattle.wac_parser_resolve.specs.Saying.{asked, identified, written_name, told_name, import_name, import_called, not_imported, with_import, import_statement, not_exported, with_definition, declaration, type_id, declared_id, no_definition, new_export, exported, export_name, export_one, export_left, export_as, expr_span, statement, statements}
 use Rattle.wac_parser_resolve.proofs.AlikeStates.{bare_bound, bare_asked, bare_exports, over, bare_over, scope_bare, context_bare, IsSaidAlike, bound_alike, spoken_over, spoken_bare}

@@ -9,6 +9,7 @@ use Rattle.wac_types_base.specs.Collection as s
 use Rattle.wac_types_base.specs.Collection.{Shape}
 use Rattle.wac_types_base.specs.Stated.{Stated, Kind, IsFunction, IsInstance, IsComponent, IsModule, IsValue, IsResource, IsFunctionType, IsValueType, IsInterface, IsWorld, IsModuleType, kind_of, shape_kind, type_kind, identifier_of, as_type, untyped, promote, func_of, interface_of, world_of, leaf}
 use Rattle.wac_composition.specs.Asks.{used_by_kind, used_by_definition}
+use Rattle.wac_composition.specs.Composition.{imported, defined}
 use Rattle.wac_parser_tree.specs.Trees as t
 use Rattle.wac_parser_tree.specs.Trees.{Span}
 use Rattle.wac_parser_refusals.specs.declared.error.InstanceOperation.{InstanceOperation}
@@ -19,7 +20,7 @@ use Rattle.wac_parser_declare.specs.Interfaces.{exporting, interface_item, inter
 use Rattle.wac_parser_declare.specs.Worlds.{world_body, world_decl, type_statement}
 use Rattle.wac_parser_declare.specs.ValueTypes.{value}
 use Rattle.wac_parser_declare.specs.Declarations.{param, result_of, free, case_of, field_of, flag_of, enum_case_of, variant_of, record_of, alias_of, alias_by, alias_value, alias_type, alias_kind, type_decl}
-use Rattle.wac_parser_resolve.specs.Ascribing.{Denoted, imported, defined, Import, State, start, context, root_scope, bound, speak_of}
+use Rattle.wac_parser_resolve.specs.Ascribing.{Denoted, Import, State, start, context, root_scope, bound, speak_of}
 use Rattle.wac_parser_resolve.specs.Askers.{Definitions_ask_nothing}
 use Rattle.wac_parser_resolve.specs.Denoting.{denote, export_named, needs_instance}
 use Rattle.wac_parser_resolve.specs.Meeting.{target}

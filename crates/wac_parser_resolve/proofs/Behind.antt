@@ -8,6 +8,7 @@ use Rattle.wac_types_base.specs.Stated.{Stated, imports_of}
 use Rattle.wac_types_names.specs.Keys.{Key}
 use Rattle.wac_graph_core.specs.Edges.{alias_edge}
 use Rattle.wac_graph_core.specs.Graph.{Graph, IsGraph}
+use Rattle.wac_composition.specs.Composition.{Origin, imported, instance, projected, defined}
 use Rattle.wac_parser_tree.specs.Trees as t
 use Rattle.wac_parser_tree.specs.Trees.{Span}
 use Rattle.wac_parser_tree.specs.Accessors.{argument_name_span as argument_span, primary_expr_span as primary_span}
@@ -17,7 +18,7 @@ use Rattle.wac_parser_refusals.specs.Outcomes.{IsHeld, IsOutcome, IsRefusal}
 use Rattle.wac_parser_refusals.proofs.Outcomes.{then_refused}
 use Rattle.wac_parser_resolve.specs.declared.board.Board.{Board}
 use Rattle.wac_parser_resolve.specs.declared.state.State.{State as Held}
-use Rattle.wac_parser_resolve.specs.Ascribing.{Denoted, Made, Origin, State, defined, denoted_by, imported, instance, projected, same_origin, speak_of}
+use Rattle.wac_parser_resolve.specs.Ascribing.{Denoted, Made, State, denoted_by, same_origin, speak_of}
 use Rattle.wac_parser_resolve.specs.Denoting as stated
 use Rattle.wac_parser_resolve.specs.Denoting.{Given, accesses, add_given, argument_fits, argument_name, arguments, complete, denote, finished, inferred_name, is_filled, is_last, named_argument, nested, new_instance, new_package, one_argument, primary, spread_one, spreads_of}
 use Rattle.wac_parser_resolve.specs.Holding.{Denotes, IsNode, Says}
@@ -140,16 +141,16 @@ module _ (g : Graph) (is : IsGraph g) (noted : List (ℕ × Span)) (names : List
   spoken_by d true e = refl
   spoken_by d false e = absurd (cc e)
 
-  by_origin : (d : Denoted) (k : ℕ) (o : Origin) → d.origin ≡ o → IsNode g ms o k → speak_of s d ≡ s
-  by_origin d k (imported n) e a = ap (λ (p : Origin). speak_of s (record { origin = p; item = d.item })) e
-  by_origin d k (instance i) e a = ap (λ (p : Origin). speak_of s (record { origin = p; item = d.item })) e
-  by_origin d k (defined n x) e a = ap (λ (p : Origin). speak_of s (record { origin = p; item = d.item })) e
+  by_origin : (d : Denoted) (k : ℕ) (o : Origin ℕ) → d.origin ≡ o → IsNode g ms o k → speak_of s d ≡ s
+  by_origin d k (imported n) e a = ap (λ (p : Origin ℕ). speak_of s (record { origin = p; item = d.item })) e
+  by_origin d k (instance i) e a = ap (λ (p : Origin ℕ). speak_of s (record { origin = p; item = d.item })) e
+  by_origin d k (defined n x) e a = ap (λ (p : Origin ℕ). speak_of s (record { origin = p; item = d.item })) e
   by_origin d k (projected o n) e a =
       let z = (is.wired.edges (alias_edge a.0 k n) a.3).alias n refl in
       let spoke = turn_back (Denotes g ms) s.aliases says.aliases.nodes k says.aliases.are (says.aliases.all k z.0 z.1 z.2) in
       let thing = same_alias g is ms (rises_apart ms says.rising) spoke.0.origin o n a.0 k spoke.2.node a.3 a.1 a.2 in
       let any = any_among (λ (y : Denoted). same_origin y.origin (projected o n)) s.aliases spoke.0 spoke.1 thing in
-      ap (λ (p : Origin). speak_of s (record { origin = p; item = d.item })) e
+      ap (λ (p : Origin ℕ). speak_of s (record { origin = p; item = d.item })) e
       ∙ spoken_by (record { origin = projected o n; item = d.item }) (list_any (λ (y : Denoted). same_origin y.origin (projected o n)) s.aliases) any
 
   pub denote_spoken : (d : Denoted) (k : ℕ) → Denotes g ms d k → speak_of s d ≡ s

@@ -18,6 +18,7 @@ use Rattle.wac_graph_core.specs.Nodes.{NodeData, defined_node}
 use Rattle.wac_graph_core.specs.NodeMaps.{IsImport}
 use Rattle.wac_graph_core.specs.Graph.{Graph, IsGraph, node_at}
 use Rattle.wac_graph_core.proofs.NodeMap.{get-insert_same}
+use Rattle.wac_composition.specs.Composition.{defined}
 use Rattle.wac_parser_tree.specs.Trees as t
 use Rattle.wac_parser_tree.specs.Trees.{Span}
 use Rattle.wac_parser_refusals.specs.declared.refusal.Refusal.{Refusal}
@@ -28,7 +29,7 @@ use Rattle.wac_parser_refusals.proofs.Outcomes.{memory_refusal}
 use Rattle.wac_parser_declare.specs.Holding.{Holds}
 use Rattle.wac_parser_declare.proofs.Members.{told}
 use Rattle.wac_parser_resolve.specs.declared.state.State.{State as Held}
-use Rattle.wac_parser_resolve.specs.Ascribing.{Bound, Denoted, State, bound, defined}
+use Rattle.wac_parser_resolve.specs.Ascribing.{Bound, Denoted, State, bound}
 use Rattle.std.specs.Option.{option_or}
 use Rattle.wac_parser_resolve.specs.Holding.{AreNamed, Denotes, HasItem, InTurn, IsDefinition, IsNamed}
 use Rattle.wac_parser_resolve.specs.InStatements.{NotesExport, definition_cause, noted_export}

@@ -24,6 +24,7 @@ use Rattle.wac_graph_core.specs.Edges.{alias_edge, argument_edge}
 use Rattle.wac_graph_core.specs.Graph.{Graph, IsGraph, instantiated, node_at, package_if, package_in, package_made}
 use Rattle.wac_graph_core.specs.Exporting.{ExportRefused, Exports}
 use Rattle.wac_graph_core.proofs.NodeSteps.{new_at}
+use Rattle.wac_composition.specs.Composition.{imported, defined}
 use Rattle.wac_parser_tree.specs.Trees as t
 use Rattle.wac_parser_tree.specs.Trees.{Span}
 use Rattle.wac_parser_tree.specs.Accessors.{extern_name_span, extern_name_text}
@@ -39,7 +40,7 @@ use Rattle.wac_parser_resolve.specs.declared.spans.Spans.{Spans}
 use Rattle.wac_parser_resolve.specs.declared.exports.Definition.{Definition}
 use Rattle.wac_parser_resolve.specs.declared.exports.ExportName.{ExportName}
 use Rattle.wac_parser_resolve.specs.declared.state.State.{State as Held}
-use Rattle.wac_parser_resolve.specs.Ascribing.{Bound, Denoted, Import, State, defined, imported, is_projection, own_name, same_origin, speak_of, is_own_definition}
+use Rattle.wac_parser_resolve.specs.Ascribing.{Bound, Denoted, Import, State, is_projection, own_name, same_origin, speak_of, is_own_definition}
 use Rattle.wac_parser_resolve.specs.Denoting.{instance_identifier, spoken}
 use Rattle.wac_parser_resolve.specs.Holding.{AreNamed, Denotes, HasItem, InTurn, IsNamed, Says}
 use Rattle.wac_parser_resolve.specs.InStatements.{DenotesOn}

@@ -15,12 +15,13 @@ use Rattle.wac_graph_core.specs.Nodes.{NodeData, Role}
 use Rattle.wac_graph_core.specs.Defining.{DefinesType}
 use Rattle.wac_graph_core.specs.Exporting.{IsExportName}
 use Rattle.wac_graph_core.specs.Graph.{Graph, IsGraph, node_at}
+use Rattle.wac_composition.specs.Composition.{Origin, imported, instance, projected, defined}
 use Rattle.wac_parser_tree.specs.Trees.{Span}
 use Rattle.wac_parser_declare.specs.declared.scope.Binding.{Binding}
 use Rattle.wac_parser_declare.specs.Holding.{meant_by, scope_of}
 use Rattle.wac_parser_declare.specs.Scope.{Meant}
 use Rattle.wac_parser_resolve.specs.Ascribing as stated
-use Rattle.wac_parser_resolve.specs.Ascribing.{Origin, imported, instance, projected, defined, Bound, State, root_scope, same_origin, is_own_definition}
+use Rattle.wac_parser_resolve.specs.Ascribing.{Bound, State, root_scope, same_origin, is_own_definition}
 use Rattle.std.specs.Option.{option_or}
 use Rattle.wac_types_base.proofs.Stating.{value_with}
 use Rattle.wac_parser_resolve.specs.Holding.{AreNamed, InTurn, IsNode}
@@ -53,7 +54,7 @@ unexportable n h = false_from_ne_true (is_exportable n) (λ e. elim (or_cases (p
 -- ---- one node is one thing
 
 module _ (g : Graph) (is : IsGraph g) (ms : List ℕ) where
-  role_both : (o p : Origin) (k : ℕ) → IsNode g ms o k → IsNode g ms p k → (r : Role) × RoleTold o r × RoleTold p r
+  role_both : (o p : Origin ℕ) (k : ℕ) → IsNode g ms o k → IsNode g ms p k → (r : Role) × RoleTold o r × RoleTold p r
   role_both o p k a b =
       let x = told_role g is ms o k a in
       let y = told_role g is ms p k b in
@@ -61,7 +62,7 @@ module _ (g : Graph) (is : IsGraph g) (ms : List ℕ) where
       let same : y.0 ≡ x.0 = cc e in
       (x.0.role, x.2, subst (λ (z : NodeData). RoleTold p z.role) same y.2)
 
-  pub one_thing : AreDistinct ms → (o p : Origin) (k : ℕ) → IsNode g ms o k → IsNode g ms p k → same_origin o p ≡ true
+  pub one_thing : AreDistinct ms → (o p : Origin ℕ) (k : ℕ) → IsNode g ms o k → IsNode g ms p k → same_origin o p ≡ true
   one_thing apart (imported m) (imported n) k a b =
       let r = role_both (imported m) (imported n) k a b in
       let e : Role.Imported m ≡ Role.Imported n = sym r.1 ∙ r.2 in
@@ -90,13 +91,13 @@ module _ (g : Graph) (is : IsGraph g) (ms : List ℕ) where
 
   -- ---- the place of the last export
 
-  module _ (apart : AreDistinct ms) (o : Origin) (j : ℕ) (here : IsNode g ms o j) where
+  module _ (apart : AreDistinct ms) (o : Origin ℕ) (j : ℕ) (here : IsNode g ms o j) where
     tested : (b c : Bool) → (b ≡ true → c ≡ true) → (c ≡ true → b ≡ true) → b ≡ c
     tested true c f h = sym (f refl)
     tested false true f h = absurd (cc (h refl))
     tested false false f h = refl
 
-    same_test : (p : Origin) (k : ℕ) → IsNode g ms p k → same_origin o p ≡ (k == j)
+    same_test : (p : Origin ℕ) (k : ℕ) → IsNode g ms p k → same_origin o p ≡ (k == j)
     same_test p k a = tested (same_origin o p) (k == j)
         (λ e. number_same k j (sym (same_node g is ms o p j k e here a)))
         (λ e. one_thing apart o p j here (subst (IsNode g ms p) (same_number k j e) a))
@@ -160,13 +161,13 @@ module _ (g : Graph) (ms : List ℕ) (s : State) (nodes : List (Name × ℕ)) (n
       by_found (Some b) f = absurd (cc (sym (ap is_some f.item.there) ∙ gone))
 
   -- a definition is one by its origin
-  defined_by : (o : Origin) (r : Role) → RoleTold o r → r ≡ Role.Defined → is_own_definition o ≡ true
+  defined_by : (o : Origin ℕ) (r : Role) → RoleTold o r → r ≡ Role.Defined → is_own_definition o ≡ true
   defined_by (imported m) r t e = absurd (cc (t, e))
   defined_by (instance i) r t e = absurd (cc (t, e))
   defined_by (projected o m) r t e = absurd (cc (t, e))
   defined_by (defined m x) r t e = refl
 
-  undefined_by : (o : Origin) (r : Role) → RoleTold o r → (r ≡ Role.Defined → ⊥) → is_own_definition o ≡ false
+  undefined_by : (o : Origin ℕ) (r : Role) → RoleTold o r → (r ≡ Role.Defined → ⊥) → is_own_definition o ≡ false
   undefined_by (imported m) r t h = refl
   undefined_by (instance i) r t h = refl
   undefined_by (projected o m) r t h = refl

@@ -23,6 +23,7 @@ use Rattle.wac_graph_core.specs.Graph.{Graph, IsGraph, node_at}
 use Rattle.wac_graph_core.specs.Refusals.{ImportRefused}
 use Rattle.wac_graph_core.specs.Steps.{Imports, IsExternName}
 use Rattle.wac_graph_core.proofs.NodeMap.{get-insert_same}
+use Rattle.wac_composition.specs.Composition.{imported}
 use Rattle.wac_parser_tree.specs.Trees as t
 use Rattle.wac_parser_tree.specs.Trees.{Span}
 use Rattle.wac_parser_refusals.specs.declared.refusal.Refusal.{Refusal}
@@ -33,7 +34,7 @@ use Rattle.wac_parser_refusals.proofs.Outcomes.{memory_refusal}
 use Rattle.wac_parser_declare.specs.Holding.{Holds}
 use Rattle.wac_parser_declare.proofs.Members.{told}
 use Rattle.wac_parser_resolve.specs.declared.state.State.{State as Held}
-use Rattle.wac_parser_resolve.specs.Ascribing.{Denoted, Import, State, bound, imported}
+use Rattle.wac_parser_resolve.specs.Ascribing.{Denoted, Import, State, bound}
 use Rattle.std.specs.Option.{option_or}
 use Rattle.wac_parser_resolve.specs.Holding.{Denotes, HasItem, InTurn}
 use Rattle.wac_parser_resolve.specs.InStatements.{NotesImport, import_cause}

@@ -20,13 +20,14 @@ use Rattle.wac_graph_core.specs.Nodes.{NodeData, Role, imported_as}
 use Rattle.wac_graph_core.specs.Edges.{HasAlias, alias_edge}
 use Rattle.wac_graph_core.specs.Exporting.{import_name_of}
 use Rattle.wac_graph_core.specs.Graph.{Graph, IsGraph, node_at}
+use Rattle.wac_composition.specs.Composition.{Origin, imported, instance, projected, defined}
 use Rattle.wac_parser_tree.specs.Trees as t
 use Rattle.wac_parser_refusals.specs.Causes.{Answer, ◌>>=◌, pure}
 use Rattle.wac_parser_refusals.specs.Outcomes.{IsHeld}
 use Rattle.wac_parser_declare.specs.Holding.{Holds}
 use Rattle.wac_parser_declare.proofs.Exports.{component_imports}
 use Rattle.wac_parser_resolve.specs.declared.arguments.Given.{Given}
-use Rattle.wac_parser_resolve.specs.Ascribing.{Origin, imported, instance, projected, defined, Denoted, own_name}
+use Rattle.wac_parser_resolve.specs.Ascribing.{Denoted, own_name}
 use Rattle.std.specs.Option.{option_or}
 use Rattle.wac_parser_resolve.specs.Denoting.{if_among, inferred_name, instance_identifier}
 use Rattle.wac_parser_resolve.specs.Holding.{Denotes, HasItem, IsGiven, IsNode}
@@ -84,7 +85,7 @@ module _ (g : Graph) (is : IsGraph g) (ms : List ℕ) where
   alias_by i k n e None h = absurd (h n (i, e))
   alias_by i k n e (Some m) h = ap Some (is.keyed.one_source h.0 i k m n h.1 e).1
 
-  pub own_told : (o : Origin) (k : ℕ) (r : Option Name) → IsNode g ms o k → TellsOwnName g k r → r ≡ own_name o
+  pub own_told : (o : Origin ℕ) (k : ℕ) (r : Option Name) → IsNode g ms o k → TellsOwnName g k r → r ≡ own_name o
   own_told (imported n) k r a h =
       subst (λ (m : Option Name). IsOwnName g k m r) (ap import_name_of a.there ∙ ap imported_as a.role) h
   own_told (instance i) k r a h =

@@ -14,8 +14,9 @@ use Rattle.wac_graph_core.specs.Nodes.{NodeData, Role}
 use Rattle.wac_graph_core.specs.NodeMaps.{IsImport}
 use Rattle.wac_graph_core.specs.Edges.{HasAlias, alias_edge}
 use Rattle.wac_graph_core.specs.Graph.{Graph, IsGraph, IsOfKind, instantiated, is_instance, node_at, package_if, package_made}
+use Rattle.wac_composition.specs.Composition.{Origin, imported, instance, projected, defined}
 use Rattle.wac_parser_declare.specs.Holding.{Holds}
-use Rattle.wac_parser_resolve.specs.Ascribing.{Origin, imported, instance, projected, defined, Denoted, Bound, same_origin}
+use Rattle.wac_parser_resolve.specs.Ascribing.{Denoted, Bound, same_origin}
 use Rattle.wac_parser_resolve.specs.Holding.{AreNamed, Denotes, HasItem, IsDefinition, IsExported, IsNamed, IsNode}
 use Rattle.wac_parser_resolve.specs.Later.{IsMore, Later}
 use Rattle.wac_parser_resolve.proofs.Growing.{as_it_was}
@@ -58,7 +59,7 @@ module _ (g h : Graph) (l : Later g h) where
       record { node = s.node; there = s.there; role = s.role ∙ a.role; type = a.type; item = s.item ∙ a.item; named = (as_it_was g h l.stays).exported n k a.named; first = (as_it_was g h l.stays).first k n a.first }
 
   module _ (ms ns : List ℕ) (more : IsMore ms ns) where
-    pub node_stays : (o : Origin) (k : ℕ) → IsNode g ms o k → IsNode h ns o k
+    pub node_stays : (o : Origin ℕ) (k : ℕ) → IsNode g ms o k → IsNode h ns o k
     node_stays (imported n) k a = import_stays k n a
     node_stays (instance i) k a = (more i k a.0, instance_stays k a.1)
     node_stays (projected o n) k a =
@@ -76,7 +77,7 @@ module _ (g h : Graph) (l : Later g h) where
 
 -- ---- roles
 
-abbrev pub RoleTold : Origin → Role → Type 0
+abbrev pub RoleTold : Origin ℕ → Role → Type 0
 RoleTold (imported n) r = r ≡ Role.Imported n
 RoleTold (instance i) r = r ≡ Role.Instance
 RoleTold (projected o n) r = r ≡ Role.Aliased
@@ -95,14 +96,14 @@ module _ (g : Graph) (is : IsGraph g) where
   instance_role k s = role_by k (node_at g k) refl s
 
   module _ (ms : List ℕ) where
-    pub told_role : (o : Origin) (k : ℕ) → IsNode g ms o k → (x : NodeData) × (node_at g k ≡ Some x) × RoleTold o x.role
+    pub told_role : (o : Origin ℕ) (k : ℕ) → IsNode g ms o k → (x : NodeData) × (node_at g k ≡ Some x) × RoleTold o x.role
     told_role (imported n) k a = (a.node, a.there, a.role)
     told_role (instance i) k a = instance_role k a.1
     told_role (projected o n) k a = let e = (is.wired.edges (alias_edge a.0 k n) a.3).alias n refl in (e.0, e.1, e.2)
     told_role (defined n x) k a = (a.node, a.there, a.role)
 
     -- one node has one role
-    both_told : (o p : Origin) (k : ℕ) → IsNode g ms o k → IsNode g ms p k → (r : Role) × RoleTold o r × RoleTold p r
+    both_told : (o p : Origin ℕ) (k : ℕ) → IsNode g ms o k → IsNode g ms p k → (r : Role) × RoleTold o r × RoleTold p r
     both_told o p k a b =
         let x = told_role o k a in
         let y = told_role p k b in
@@ -125,7 +126,7 @@ module _ (g : Graph) (is : IsGraph g) where
     one_found : (o : Option ℕ) (j k : ℕ) → o ≡ Some j → o ≡ Some k → j ≡ k
     one_found o j k e f = let same : Some j ≡ Some k = sym e ∙ f in cc same
 
-    pub same_node : (o p : Origin) (j k : ℕ) → same_origin o p ≡ true → IsNode g ms o j → IsNode g ms p k → j ≡ k
+    pub same_node : (o p : Origin ℕ) (j k : ℕ) → same_origin o p ≡ true → IsNode g ms o j → IsNode g ms p k → j ≡ k
     same_node (imported m) (imported n) j k e a b =
         let s : m ≡ n = (bytes_decides m n).0 e in is.once.imports j k n (subst (IsImport g.nodes j) s a) b
     same_node (instance i) (instance l) j k e a b =
@@ -160,7 +161,7 @@ module _ (g : Graph) (is : IsGraph g) where
           let item : a.node.item_kind ≡ ItemKind.Ty b.type = ap (λ (x : NodeData). x.item_kind) (sym same) ∙ b.item in
           absurd (cc (sym (ap is_instance item) ∙ a.kind))
 
-      pub same_thing : (o p : Origin) (k : ℕ) → IsOfKind g k (λ x. is_instance x ≡ true) → IsNode g ms o k → IsNode g ms p k → same_origin o p ≡ true
+      pub same_thing : (o p : Origin ℕ) (k : ℕ) → IsOfKind g k (λ x. is_instance x ≡ true) → IsNode g ms o k → IsNode g ms p k → same_origin o p ≡ true
       same_thing (imported m) (imported n) k i a b =
           let r = both_told (imported m) (imported n) k a b in
           let e : Role.Imported m ≡ Role.Imported n = sym r.1 ∙ r.2 in
@@ -180,14 +181,14 @@ module _ (g : Graph) (is : IsGraph g) where
       same_thing (projected o m) (instance l) k i a b = let r = both_told (projected o m) (instance l) k a b in absurd (cc (r.1, r.2))
 
       -- an alias is a projection of the one instance that it is of
-      pub same_alias : (o p : Origin) (n : Name) (i k : ℕ) → IsNode g ms o k → HasAlias g.edges i n k → IsNode g ms p i
+      pub same_alias : (o p : Origin ℕ) (n : Name) (i k : ℕ) → IsNode g ms o k → HasAlias g.edges i n k → IsNode g ms p i
           → (is_instance_at : IsOfKind g i (λ x. is_instance x ≡ true)) → same_origin o (projected p n) ≡ true
       same_alias o p n i k a e b kind = by_origin o a
         where
           here : IsNode g ms (projected p n) k
           here = (i, b, kind, e)
 
-          by_origin : (q : Origin) → IsNode g ms q k → same_origin q (projected p n) ≡ true
+          by_origin : (q : Origin ℕ) → IsNode g ms q k → same_origin q (projected p n) ≡ true
           by_origin (imported m) c = let r = both_told (imported m) (projected p n) k c here in absurd (cc (r.1, r.2))
           by_origin (instance l) c = let r = both_told (instance l) (projected p n) k c here in absurd (cc (r.1, r.2))
           by_origin (defined m x) c = let r = both_told (defined m x) (projected p n) k c here in absurd (cc (r.1, r.2))
@@ -196,20 +197,20 @@ module _ (g : Graph) (is : IsGraph g) where
               true_both (same_origin q p) (bytes_eq m n) (same_thing q p c.0 c.2 c.1 (subst (IsNode g ms p) (sym s.0) b)) ((bytes_decides m n).1 s.1)
 
     -- the node of which an alias is one is an instance
-    pub alias_of_instance : (o : Origin) (n : Name) (i k : ℕ) → IsNode g ms o k → HasAlias g.edges i n k → IsOfKind g i (λ x. is_instance x ≡ true)
+    pub alias_of_instance : (o : Origin ℕ) (n : Name) (i k : ℕ) → IsNode g ms o k → HasAlias g.edges i n k → IsOfKind g i (λ x. is_instance x ≡ true)
     alias_of_instance o n i k a e = by_origin o a
       where
         aliased : (x : NodeData) × (node_at g k ≡ Some x) × (x.role ≡ Role.Aliased)
         aliased = let z = (is.wired.edges (alias_edge i k n) e).alias n refl in (z.0, z.1, z.2)
 
-        clash : (q : Origin) → IsNode g ms q k → (r : Role) × RoleTold q r × (r ≡ Role.Aliased)
+        clash : (q : Origin ℕ) → IsNode g ms q k → (r : Role) × RoleTold q r × (r ≡ Role.Aliased)
         clash q c =
             let x = told_role q k c in
             let z : Some aliased.0 ≡ Some x.0 = sym aliased.1 ∙ x.1 in
             let same : aliased.0 ≡ x.0 = cc z in
             (x.0.role, x.2, subst (λ (y : NodeData). y.role ≡ Role.Aliased) same aliased.2)
 
-        by_origin : (q : Origin) → IsNode g ms q k → IsOfKind g i (λ x. is_instance x ≡ true)
+        by_origin : (q : Origin ℕ) → IsNode g ms q k → IsOfKind g i (λ x. is_instance x ≡ true)
         by_origin (imported m) c = let r = clash (imported m) c in absurd (cc (r.1, r.2))
         by_origin (instance l) c = let r = clash (instance l) c in absurd (cc (r.1, r.2))
         by_origin (defined m x) c = let r = clash (defined m x) c in absurd (cc (r.1, r.2))

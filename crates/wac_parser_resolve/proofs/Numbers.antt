@@ -1,4 +1,4 @@
--- Origins that name instances below a number, and lists that grow at their end.
+-- Lists that grow at their end.
 use Rattle.std.specs.Prelude.{slice_get, ◌==◌, if◌then◌else◌}
 use Rattle.std.proofs.lemmas.Option.{none-some, same_Some}
 use Rattle.std.specs.Cmp.Lexicographic.{pointwise}
@@ -7,20 +7,6 @@ use Rattle.wac_types_base.specs.Entries.{Name, value_at}
 use Rattle.wac_types_base.specs.Graph.{Among}
 use Rattle.std.specs.Option.{option_or}
 use Rattle.wac_types_base.proofs.Lists.{value_both}
-use Rattle.wac_parser_resolve.specs.Ascribing.{Origin, imported, instance, projected, defined}
-
--- each instance that the origin names is below this number
-abbrev pub Below : ℕ → Origin → Type 0
-Below k (imported n) = Unit {0}
-Below k (instance j) = j < k
-Below k (projected o n) = Below k o
-Below k (defined n x) = Unit {0}
-
-pub below_more : (j k : ℕ) (o : Origin) → j ≤ k → Below j o → Below k o
-below_more j k (imported n) h b = tt
-below_more j k (instance i) h b = omega (arith, h, b)
-below_more j k (projected o n) h b = below_more j k o h b
-below_more j k (defined n x) h b = tt
 
 module _ {A : Type 0} where
   pub length_more : (xs : List A) (x : A) → length (xs ++ x ∷ []) ≡ suc (length xs)

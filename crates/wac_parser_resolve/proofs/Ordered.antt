@@ -5,13 +5,15 @@ use Rattle.std.specs.Cmp.Lexicographic.{pointwise}
 use Rattle.std.proofs.Common.{◌≡◌, ℕ, zero, suc, ◌<◌, List, [], ◌∷◌, map, Bool, true, false, Option, Some, None, Ok, length, refl, sym, ap, subst, ◌∙◌, arith}
 use Rattle.wac_types_base.specs.Entries.{Name, value_at}
 use Rattle.wac_types_base.specs.Stated.{Stated, imports_of}
+use Rattle.wac_types_base.proofs.Stating.{value_with}
 use Rattle.wac_types_names.specs.Keys.{Key}
 use Rattle.wac_graph_bytes.specs.Wirings.{Tag, Absent, Uses, Instantiation, Wiring, IsOrdered}
 use Rattle.wac_composition.specs.Asks.{Ask, asks_of}
+use Rattle.wac_composition.specs.Sound.{IsBefore}
 use Rattle.wac_composition.specs.Worlds.{source_of}
 use Rattle.wac_composition.specs.Wired.{source_for, argument_source, instantiation, export_source, composed_wiring}
 use Rattle.wac_composition.specs.Composition as c
-use Rattle.wac_composition.specs.Composition.{Composition}
+use Rattle.wac_composition.specs.Composition.{Origin, imported, instance, projected, defined, Composition}
 use Rattle.wac_composition.specs.Conflicts as cause
 use Rattle.wac_composition.specs.Conflicts.{first_cause, name_cause}
 use Rattle.wac_graph_bytes.proofs.Replace.{Uses-project}
@@ -19,14 +21,14 @@ use Rattle.wac_parser_tree.specs.Trees as t
 use Rattle.wac_parser_refusals.specs.Causes.{Answer, ◌>>◌}
 use Rattle.wac_parser_declare.specs.Packages.{Content}
 use Rattle.wac_parser_declare.specs.Scope.{package_under}
-use Rattle.wac_parser_resolve.specs.Ascribing.{Origin, imported, instance, projected, defined, Denoted, Made, Bound, State, worlds_of}
+use Rattle.wac_parser_resolve.specs.Ascribing.{Denoted, Made, Bound, State, worlds_of}
 use Rattle.wac_parser_resolve.specs.Saying.{statements}
 use Rattle.wac_parser_resolve.specs.Meeting.{target, resolved}
-use Rattle.wac_parser_resolve.specs.Ascribed.{Asker, origin_in, argument_in, made_in, numbered, composition, unless_cause, ascribed, said_export}
+use Rattle.wac_parser_resolve.specs.Ascribed.{Asker, argument_in, made_in, numbered, composition, unless_cause, ascribed, said_export}
 use Rattle.wac_parser_resolve.specs.Laws.{Packages_are_known, Packages_stay, Wirings_are_ordered}
 use Rattle.wac_parser_resolve.proofs.Answers.{err_ok, ok_of, then_ok, ok_is}
-use Rattle.wac_parser_resolve.proofs.Numbers.{Below, slice_below, slice_there}
-use Rattle.wac_parser_resolve.proofs.Sound.{Sound, has_below, statements_sound}
+use Rattle.wac_parser_resolve.proofs.Numbers.{slice_below, slice_there}
+use Rattle.wac_parser_resolve.proofs.Sound.{Sound, has_before, statements_sound}
 use Rattle.wac_types_fit.proofs.Items.{value_at-among}
 
 -- ---- the instances with their numbers
@@ -57,29 +59,23 @@ numbered_there j (x ∷ ms) (suc k) m e = numbered_there (suc j) ms k m e
 -- ---- sources
 
 module _ (P : ℕ → Type 0) (asks : List (Ask Asker)) where
-  origin_uses : (k : ℕ) → ((j : ℕ) → j < k → P j) → (o : Origin) → Below k o → Uses P (source_of asks (origin_in o))
+  origin_uses : (k : ℕ) → ((j : ℕ) → j < k → P j) → (o : Origin ℕ) → IsBefore k o → Uses P (source_of asks o)
   origin_uses k h (imported n) b = tt
   origin_uses k h (instance j) b = h j b
-  origin_uses k h (projected o n) b = Uses-project P (source_of asks (origin_in o)) n (origin_uses k h o b)
+  origin_uses k h (projected o n) b = Uses-project P (source_of asks o) n (origin_uses k h o b)
   origin_uses k h (defined n x) b = tt
 
 -- what is passed under a name
-pub argument_is : (as_ : List (Name × Denoted)) (n : Name) → value_at (map argument_in as_) n ≡ option_map (λ (d : Denoted). origin_in d.origin) (value_at as_ n)
-argument_is [] n = refl
-argument_is (a ∷ as_) n = go (argument_is as_ n) (pointwise ◌==◌ n a.0)
-  where
-    go : value_at (map argument_in as_) n ≡ option_map (λ (d : Denoted). origin_in d.origin) (value_at as_ n) → (b : Bool)
-        → (if b then Some (origin_in a.1.origin) else value_at (map argument_in as_) n) ≡ option_map (λ (d : Denoted). origin_in d.origin) (if b then Some a.1 else value_at as_ n)
-    go rest true = refl
-    go rest false = rest
+pub argument_is : (as_ : List (Name × Denoted)) (n : Name) → value_at (map argument_in as_) n ≡ option_map (λ (d : Denoted). d.origin) (value_at as_ n)
+argument_is as_ n = value_with (λ (d : Denoted). d.origin) as_ n
 
 -- what is exported under a name
-pub export_is : (es : List (Name × Bound)) (n : Name) → value_at (map (λ (e : Name × c.Origin ℕ × Stated). (e.0, e.1)) (map said_export es)) n ≡ option_map (λ (b : Bound). origin_in b.denoted.origin) (value_at es n)
+pub export_is : (es : List (Name × Bound)) (n : Name) → value_at (map (λ (e : Name × Origin ℕ × Stated). (e.0, e.1)) (map said_export es)) n ≡ option_map (λ (b : Bound). b.denoted.origin) (value_at es n)
 export_is [] n = refl
 export_is (e ∷ es) n = go (export_is es n) (pointwise ◌==◌ n e.0)
   where
-    go : value_at (map (λ (e : Name × c.Origin ℕ × Stated). (e.0, e.1)) (map said_export es)) n ≡ option_map (λ (b : Bound). origin_in b.denoted.origin) (value_at es n) → (b : Bool)
-        → (if b then Some (origin_in e.1.denoted.origin) else value_at (map (λ (e : Name × c.Origin ℕ × Stated). (e.0, e.1)) (map said_export es)) n) ≡ option_map (λ (b : Bound). origin_in b.denoted.origin) (if b then Some e.1 else value_at es n)
+    go : value_at (map (λ (e : Name × Origin ℕ × Stated). (e.0, e.1)) (map said_export es)) n ≡ option_map (λ (b : Bound). b.denoted.origin) (value_at es n) → (b : Bool)
+        → (if b then Some e.1.denoted.origin else value_at (map (λ (e : Name × Origin ℕ × Stated). (e.0, e.1)) (map said_export es)) n) ≡ option_map (λ (b : Bound). b.denoted.origin) (if b then Some e.1 else value_at es n)
     go rest true = refl
     go rest false = rest
 
@@ -108,7 +104,7 @@ module _ (ps : List (Key × Content)) (g : State) (sound : Sound ps g) (tag_of :
       each : (j : ℕ) → j < k → Earlier k j
       each j h = (h, there j (omega (arith, h, below)))
 
-      passed : (o : Option Denoted) → value_at r.made.arguments n ≡ o → Uses (Earlier k) (source_for tag_of x (option_map (λ (d : Denoted). origin_in d.origin) o) n)
+      passed : (o : Option Denoted) → value_at r.made.arguments n ≡ o → Uses (Earlier k) (source_for tag_of x (option_map (λ (d : Denoted). d.origin) o) n)
       passed None e = tt
       passed (Some d) e = origin_uses (Earlier k) (asks_of x) k each d.origin ((sound.made k r.made r.there).before n d e)
 
@@ -129,9 +125,9 @@ module _ (ps : List (Key × Content)) (g : State) (sound : Sound ps g) (tag_of :
           let r = numbered_is zero g.made k m q in
           subst (λ (z : Instantiation ℕ). Uses (Earlier k) (z.args n)) (same_Some _ _ e) (args_earlier k (slice_below g.made k r.made r.there) m r n)
 
-      exported : (n : Name) (o : Option Bound) → value_at g.exports n ≡ o → Uses (λ j. IsSome (W.at j)) (export_source tag_of x (option_map (λ (b : Bound). origin_in b.denoted.origin) o))
+      exported : (n : Name) (o : Option Bound) → value_at g.exports n ≡ o → Uses (λ j. IsSome (W.at j)) (export_source tag_of x (option_map (λ (b : Bound). b.denoted.origin) o))
       exported n None e = tt
-      exported n (Some b) e = origin_uses (λ j. IsSome (W.at j)) (asks_of x) (length g.made) there b.denoted.origin (has_below g b.denoted.origin b.denoted.item (sound.exports (n, b) (value_at-among g.exports n b e)))
+      exported n (Some b) e = origin_uses (λ j. IsSome (W.at j)) (asks_of x) (length g.made) there b.denoted.origin (has_before g b.denoted.origin b.denoted.item (sound.exports (n, b) (value_at-among g.exports n b e)))
 
 -- ---- a document
 

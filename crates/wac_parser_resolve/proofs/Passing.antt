@@ -35,6 +35,7 @@ use Rattle.wac_graph_core.specs.Graph.{Graph, IsArgument, IsGraph, imported_in, 
 use Rattle.wac_graph_core.specs.Steps.{AddsArgument, SetsArgument}
 use Rattle.wac_graph_core.specs.Refusals.{IsOpen, LacksArgument, NodeMismatches, StatedMismatches}
 use Rattle.wac_graph_core.proofs.EdgeSteps.{edge_from, edge_to, edge_label, argument_name}
+use Rattle.wac_composition.specs.Composition.{Origin, imported, instance, projected, defined}
 use Rattle.wac_parser_tree.specs.Trees.{Span}
 use Rattle.wac_parser_refusals.specs.declared.refusal.Refusal.{Refusal}
 use Rattle.wac_parser_refusals.specs.Causes.{Answer, ◌>>=◌, MismatchedInstantiationArg, MissingComponentImport, present}
@@ -46,7 +47,7 @@ use Rattle.wac_parser_refusals.proofs.Sources.{tells_of}
 use Rattle.wac_parser_declare.specs.Holding.{Holds}
 use Rattle.wac_parser_declare.proofs.Exports.{component_imports}
 use Rattle.wac_parser_resolve.specs.declared.arguments.Given.{Given}
-use Rattle.wac_parser_resolve.specs.Ascribing.{Origin, imported, instance, projected, defined, Denoted, Made, State}
+use Rattle.wac_parser_resolve.specs.Ascribing.{Denoted, Made, State}
 use Rattle.wac_parser_resolve.specs.Denoting as stated
 use Rattle.wac_parser_resolve.specs.Denoting.{argument_fits, compared_by, fitting}
 use Rattle.wac_parser_resolve.specs.Holding.{Denotes, InTurn, IsGiven, IsMade}
@@ -116,7 +117,7 @@ module _ (c : Collection) (a : IsAcyclic c) (t : Stated) (w : WorldId) (h : Hold
 
 -- ---- what is passed is compared as it is written
 
-compared_same : (g : Graph) (o : Origin) (r : Role) (t : Stated) → RoleTold o r → passed_as r t ≡ compared_by o t
+compared_same : (g : Graph) (o : Origin ℕ) (r : Role) (t : Stated) → RoleTold o r → passed_as r t ≡ compared_by o t
 compared_same g (imported n) r t is = ap (λ (x : Role). passed_as x t) is
 compared_same g (instance i) r t is = ap (λ (x : Role). passed_as x t) is
 compared_same g (projected o n) r t is = ap (λ (x : Role). passed_as x t) is

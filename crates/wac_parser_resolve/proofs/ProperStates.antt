@@ -14,7 +14,7 @@ use Rattle.wac_types_base.specs.Tree.{tree}
 use Rattle.wac_types_base.proofs.Stating.{value_with}
 use Rattle.wac_nesting.specs.Given.{IsDefinition}
 use Rattle.wac_composition.specs.Composition as c
-use Rattle.wac_composition.specs.Composition.{Placed, Composition}
+use Rattle.wac_composition.specs.Composition.{Origin, imported, defined, Placed, Composition}
 use Rattle.wac_composition.specs.Asks.{Ask, asks_of}
 use Rattle.wac_composition.specs.Sound.{IsStraight}
 use Rattle.wac_composition.proofs.Lists.{mapped_among}
@@ -25,7 +25,7 @@ use Rattle.wac_parser_refusals.specs.declared.error.InstanceOperation.{InstanceO
 use Rattle.wac_parser_refusals.specs.Causes.{Answer, pure, unless_clear, present, each, InvalidExternName, ExportRequiresAs, FillArgumentNotLast}
 use Rattle.wac_parser_declare.specs.Scope.{Meant, bind}
 use Rattle.wac_parser_declare.specs.Worlds.{type_statement}
-use Rattle.wac_parser_resolve.specs.Ascribing.{Origin, imported, defined, Denoted, Made, Import, Bound, State, start, meant_by, root_scope, context, denoted_by, bound, is_projection, same_origin, speak_of, worlds_of}
+use Rattle.wac_parser_resolve.specs.Ascribing.{Denoted, Made, Import, Bound, State, start, meant_by, root_scope, context, denoted_by, bound, is_projection, same_origin, speak_of, worlds_of}
 use Rattle.wac_parser_tree.specs.Accessors.{argument_name_span as argument_span, postfix_expr_span as postfix_span, primary_expr_span as primary_span}
 use Rattle.wac_parser_resolve.specs.Denoting.{Given, needs_instance, export_named, access_by, spoken as spoken_of, access, accesses, add_given, inferred_name, argument_name, left_names, spread_given, spread_all, spread_one, spreads_of, argument_fits, complete, is_filled, is_last, with_made, finished, new_package, denote, primary, nested, new_instance, arguments, one_argument, named_argument}
 use Rattle.wac_types_names.specs.InterfaceNames.{is_exportable, is_extern_name}
@@ -172,7 +172,7 @@ promoted IsModuleType x h = h
 
 module _ (ps : Packages) (packages : AreProper (worlds_of ps)) where
   module _ (g : State) (s : Sound ps g) (f : Formed g) where
-    has_proper : (o : Origin) (x : Stated) → Has g o x → Proper x
+    has_proper : (o : Origin ℕ) (x : Stated) → Has g o x → Proper x
     has_proper o x (an_import i m) = f.imports i m
     has_proper o x (an_instance k m e) = instance_proper m.world (under_proper (worlds_of ps) m.key m.world packages (s.made k m e).known)
     has_proper o x (an_export p z n y h k e) = item_proper (exports_of z) n y (exports_proper z (has_proper p z h)) e

@@ -12,6 +12,8 @@ use Rattle.wac_types_base.specs.Stated.{Stated, kind_of, desc, exports_of, impor
 use Rattle.wac_types_names.specs.Keys.{Key}
 use Rattle.wac_composition.specs.Classes.{is_instance_kind}
 use Rattle.wac_composition.specs.Tests.{fits}
+use Rattle.wac_composition.specs.Composition.{Origin, imported, instance, projected, defined}
+use Rattle.wac_composition.specs.Sound.{IsBefore}
 use Rattle.wac_parser_tree.specs.Trees as t
 use Rattle.wac_parser_tree.specs.Trees.{Span}
 use Rattle.wac_parser_refusals.specs.declared.error.InstanceOperation.{InstanceOperation}
@@ -19,33 +21,33 @@ use Rattle.wac_parser_refusals.specs.Causes.{Answer, Cause, Fault, ◌>>◌, pur
 use Rattle.wac_parser_declare.specs.Packages.{Content}
 use Rattle.wac_parser_declare.specs.Scope.{package_under, world_of_package, bind}
 use Rattle.wac_parser_declare.specs.Worlds.{type_statement}
-use Rattle.wac_parser_resolve.specs.Ascribing.{Origin, imported, instance, projected, defined, Denoted, Made, Import, Bound, State, start, root_scope, context, denoted_by, bound, projection, is_projection, same_origin, speak_of, worlds_of}
+use Rattle.wac_parser_resolve.specs.Ascribing.{Denoted, Made, Import, Bound, State, start, root_scope, context, denoted_by, bound, projection, is_projection, same_origin, speak_of, worlds_of}
 use Rattle.wac_parser_tree.specs.Accessors.{argument_name_span as argument_span, postfix_expr_span as postfix_span, primary_expr_span as primary_span}
 use Rattle.wac_parser_resolve.specs.Denoting.{Given, given_names, needs_instance, export_by, export_named, access_by, spoken, access, accesses, add_given, inferred_name, argument_name, left_names, spread_given, spread_all, spread_one, spreads_of, compared_by, argument_fits, complete, is_filled, is_last, with_made, finished, key_named, new_package, denote, primary, nested, new_instance, arguments, one_argument, named_argument}
 use Rattle.wac_parser_resolve.specs.Matching.{matched}
 use Rattle.wac_types_names.specs.InterfaceNames.{is_exportable, is_extern_name}
 use Rattle.wac_parser_resolve.specs.Saying.{asked, import_name, import_called, not_imported, with_import, import_statement, not_exported, with_definition, declaration, declared_id, no_definition, new_export, exported, export_name, export_one, export_left, export_as, written_name, expr_span, statement, statements}
 use Rattle.wac_parser_resolve.proofs.Answers.{err_ok, ok_of, then_ok, ok_is, each_keeps}
-use Rattle.wac_parser_resolve.proofs.Numbers.{Below, slice_more, slice_kept, slice_last, slice_below, value_more, among_more, among_last, each_more}
+use Rattle.wac_parser_resolve.proofs.Numbers.{slice_more, slice_kept, slice_last, slice_below, value_more, among_more, among_last, each_more}
 
 abbrev pub Packages : Type 0
 Packages = List (Key × Content)
 
 -- what an origin is, with the type by which steps from it go, in what was said
-pub data Has (g : State) : Origin → Stated → Type 0 where
+pub data Has (g : State) : Origin ℕ → Stated → Type 0 where
   an_import : (i : Import) → Among i g.imports → Has g (imported i.name) i.item
   an_instance : (k : ℕ) (m : Made) → slice_get g.made k ≡ Some m → Has g (instance k) (instance_type m.world)
-  an_export : (o : Origin) (x : Stated) (n : Name) (y : Stated) → Has g o x → is_instance_kind (kind_of x) ≡ true → value_at (exports_of x) n ≡ Some y → Has g (projected o n) y
+  an_export : (o : Origin ℕ) (x : Stated) (n : Name) (y : Stated) → Has g o x → is_instance_kind (kind_of x) ≡ true → value_at (exports_of x) n ≡ Some y → Has g (projected o n) y
   a_definition : (n : Name) (x : Stated) → Among (n, x) g.definitions → Has g (defined n x) x
 
 abbrev pub HasThat : State → Denoted → Type 0
 HasThat g d = Has g d.origin d.item
 
-pub has_below : (g : State) (o : Origin) (x : Stated) → Has g o x → Below (length g.made) o
-has_below g o x (an_import i m) = tt
-has_below g o x (an_instance k m e) = slice_below g.made k m e
-has_below g o x (an_export p z n y h k e) = has_below g p z h
-has_below g o x (a_definition n y m) = tt
+pub has_before : (g : State) (o : Origin ℕ) (x : Stated) → Has g o x → IsBefore (length g.made) o
+has_before g o x (an_import i m) = tt
+has_before g o x (an_instance k m e) = slice_below g.made k m e
+has_before g o x (an_export p z n y h k e) = has_before g p z h
+has_before g o x (a_definition n y m) = tt
 
 -- what was said was said
 pub record Grows (g h : State) : Type 0 where
@@ -56,7 +58,7 @@ pub record Grows (g h : State) : Type 0 where
 grows_then : (g h k : State) → Grows g h → Grows h k → Grows g k
 grows_then g h k a b = record { imports = λ i m. b.imports i (a.imports i m); made = λ j m e. b.made j m (a.made j m e); definitions = λ e m. b.definitions e (a.definitions e m) }
 
-has_more : (g h : State) → Grows g h → (o : Origin) (x : Stated) → Has g o x → Has h o x
+has_more : (g h : State) → Grows g h → (o : Origin ℕ) (x : Stated) → Has g o x → Has h o x
 has_more g h w o x (an_import i m) = an_import i (w.imports i m)
 has_more g h w o x (an_instance k m e) = an_instance k m (w.made k m e)
 has_more g h w o x (an_export p z n y f k e) = an_export p z n y (has_more g h w p z f) k e
@@ -66,7 +68,7 @@ has_more g h w o x (a_definition n y m) = a_definition n y (w.definitions (n, y)
 pub record IsMadeOk (ps : Packages) (g : State) (i : ℕ) (m : Made) : Type 0 where
   pub known : package_under (worlds_of ps) m.key ≡ Some m.world
   pub has : (n : Name) (d : Denoted) → value_at m.arguments n ≡ Some d → HasThat g d
-  pub before : (n : Name) (d : Denoted) → value_at m.arguments n ≡ Some d → Below i d.origin
+  pub before : (n : Name) (d : Denoted) → value_at m.arguments n ≡ Some d → IsBefore i d.origin
   pub fit : (n : Name) (d : Denoted) → value_at m.arguments n ≡ Some d → (x : Stated) → value_at (imports_of m.world) n ≡ Some x → fits (compared_by d.origin d.item) x ≡ true
 
 made_more : (ps : Packages) (g h : State) (i : ℕ) (m : Made) → Grows g h → IsMadeOk ps g i m → IsMadeOk ps h i m
@@ -310,7 +312,7 @@ module _ (ps : Packages) where
       let ok : IsMadeOk ps g (length g.made) m = record {
         known = known;
         has = λ n d q. let a = given n d q in subst (HasThat g) a.2 a.3.0;
-        before = λ n d q. let a = given n d q in has_below g d.origin d.item (subst (HasThat g) a.2 a.3.0);
+        before = λ n d q. let a = given n d q in has_before g d.origin d.item (subst (HasThat g) a.2 a.3.0);
         fit = λ n d q z v. let a = given n d q in subst (λ (c : Denoted). fits (compared_by c.origin c.item) z ≡ true) a.2 (a.3.1 z (ap (value_at (imports_of w)) a.1 ∙ v));
       } in
       subst (Denotes g) (sym (ok_is r (with_made g m) y)) (record { comes = record_made g m s ok; has = an_instance (length g.made) m (slice_last g.made m) })

@@ -21,12 +21,13 @@ use Rattle.wac_graph_core.specs.Steps.{AliasesAnew, Aliases}
 use Rattle.wac_graph_core.proofs.NodeMap.{get-insert_same}
 use Rattle.wac_graph_core.proofs.NodeSteps.{new_at}
 use Rattle.wac_graph_core.proofs.EdgeSteps.{edge_from, edge_to, edge_label, alias_name}
+use Rattle.wac_composition.specs.Composition.{projected}
 use Rattle.wac_parser_refusals.specs.declared.error.InstanceOperation.{InstanceOperation}
 use Rattle.wac_parser_refusals.specs.Causes.{◌>>◌}
 use Rattle.wac_parser_refusals.specs.Outcomes.{IsHeld}
 use Rattle.wac_parser_tree.specs.Trees.{Span}
 use Rattle.wac_parser_declare.specs.Holding.{Holds}
-use Rattle.wac_parser_resolve.specs.Ascribing.{projected, Denoted, Made, State, projection, same_origin, speak_of}
+use Rattle.wac_parser_resolve.specs.Ascribing.{Denoted, Made, State, projection, same_origin, speak_of}
 use Rattle.wac_parser_resolve.specs.Denoting.{export_by, export_named, needs_instance, spoken}
 use Rattle.wac_parser_resolve.specs.Holding.{Denotes, HasItem, IsExported, IsMade, Says}
 use Rattle.wac_parser_resolve.specs.InExpressions.{SaysThat}

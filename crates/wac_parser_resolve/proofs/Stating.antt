@@ -21,6 +21,7 @@ use Rattle.wac_types_base.specs.Stated.{Stated, stated_in, stated_of}
 use Rattle.wac_types_names.specs.Keys.{Key}
 use Rattle.wac_graph_core.specs.NodeMaps.{IsImport}
 use Rattle.wac_graph_core.specs.Graph.{IsOfKind}
+use Rattle.wac_composition.specs.Composition.{Origin, imported, instance, projected, defined}
 use Rattle.wac_parser_tree.specs.Trees as t
 use Rattle.wac_parser_tree.specs.Trees.{Span}
 use Rattle.std.specs.Option.{option_or}
@@ -31,7 +32,7 @@ use Rattle.wac_parser_declare.proofs.Kept.{EachStands-kept, Holds-kept, with_val
 use Rattle.wac_parser_resolve.specs.declared.board.Board.{Board}
 use Rattle.wac_parser_resolve.specs.declared.packages.GraphTypes.{GraphTypes}
 use Rattle.wac_parser_resolve.specs.declared.state.State.{State as Held}
-use Rattle.wac_parser_resolve.specs.Ascribing.{Bound, Denoted, Import, Made, Origin, State, defined, imported, instance, projected, root_scope}
+use Rattle.wac_parser_resolve.specs.Ascribing.{Bound, Denoted, Import, Made, State, root_scope}
 use Rattle.wac_parser_resolve.specs.Holding.{AreNamed, Denotes, HasItem, IsDefinition, IsExported, IsMade, IsNamed, IsNode, Says}
 use Rattle.wac_parser_resolve.specs.Knowing.{all_known, handed_keys, handed_under, known_in, content_in}
 use Rattle.wac_parser_resolve.specs.Later.{AddsNone, Inner, IsMore, IsWithin, Later, first_name}
@@ -165,7 +166,7 @@ module _ (g h : Graph) (grows : Grows g.types h.types) (nodes_same : h.nodes ≡
   definition_grown : (k : ℕ) (n : Name) → IsDefinition g k n → IsDefinition h k n
   definition_grown k n a = record { node = a.node; there = at_same k ∙ a.there; role = a.role; type = a.type; item = a.item; named = ap (λ (xs : List (Name × ℕ)). value_at xs n) exports ∙ a.named; first = ap (λ (xs : List (Name × ℕ)). first_name xs k) exports ∙ a.first }
 
-  node_grown : (ms : List ℕ) (o : Origin) (k : ℕ) → IsNode g ms o k → IsNode h ms o k
+  node_grown : (ms : List ℕ) (o : Origin ℕ) (k : ℕ) → IsNode g ms o k → IsNode h ms o k
   node_grown ms (imported n) k a = record { node = a.node; there = at_same k ∙ a.there; role = a.role }
   node_grown ms (instance i) k a = (a.0, subst IsSome (sym (made k)) a.1)
   node_grown ms (projected o n) k a =

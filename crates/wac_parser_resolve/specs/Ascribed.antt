@@ -5,14 +5,14 @@ use Rattle.wac_types_base.specs.Entries.{Name}
 use Rattle.wac_types_base.specs.Stated.{Stated}
 use Rattle.wac_types_names.specs.Keys.{Key}
 use Rattle.wac_composition.specs.Composition as c
-use Rattle.wac_composition.specs.Composition.{Composition, Placed}
+use Rattle.wac_composition.specs.Composition.{Origin, Composition, Placed}
 use Rattle.wac_composition.specs.Conflicts as cause
 use Rattle.wac_composition.specs.Conflicts.{first_cause, name_cause}
 use Rattle.wac_parser_tree.specs.Trees as t
 use Rattle.wac_parser_tree.specs.Trees.{Span}
 use Rattle.wac_parser_refusals.specs.Causes.{Answer, Cause, ◌>>=◌, ◌>>◌, pure, ImportConflict, ExplicitImportConflict, InstantiationArgMergeFailure, TypeCannotBeWritten, ValidationFailure, plainly}
 use Rattle.wac_parser_declare.specs.Packages.{Content}
-use Rattle.wac_parser_resolve.specs.Ascribing.{Origin, imported, instance, projected, defined, Denoted, Made, Import, Bound, State, own_name}
+use Rattle.wac_parser_resolve.specs.Ascribing.{Denoted, Made, Import, Bound, State, own_name}
 use Rattle.wac_parser_resolve.specs.Meeting.{resolved}
 
 -- ---- the composition that the statements say
@@ -23,14 +23,8 @@ pub data Asker : Type 0 where
   by_instance : Key → Span → Asker
   by_definition : Asker
 
-abbrev pub origin_in : Origin → c.Origin ℕ
-origin_in (imported n) = c.imported n
-origin_in (instance k) = c.instance k
-origin_in (projected o n) = c.projected (origin_in o) n
-origin_in (defined n x) = c.defined x
-
-abbrev pub argument_in : Name × Denoted → Name × c.Origin ℕ
-argument_in a = (a.0, origin_in a.1.origin)
+abbrev pub argument_in : Name × Denoted → Name × Origin ℕ
+argument_in a = (a.0, a.1.origin)
 
 abbrev pub made_in : ℕ → Made → c.Made Asker ℕ
 made_in k m =
@@ -51,8 +45,8 @@ placed_definition d = record { by = by_definition; name = d.0; item = d.1 }
 abbrev pub alias_in : Denoted → Name × Stated
 alias_in d = (unwrap_or (own_name d.origin) [], d.item)
 
-abbrev pub said_export : Name × Bound → Name × c.Origin ℕ × Stated
-said_export e = (e.0, origin_in e.1.denoted.origin, e.1.denoted.item)
+abbrev pub said_export : Name × Bound → Name × Origin ℕ × Stated
+said_export e = (e.0, e.1.denoted.origin, e.1.denoted.item)
 
 abbrev pub composition : State → Composition Asker ℕ
 composition g = record {

@@ -4,24 +4,16 @@ use Rattle.std.specs.List.{list_any}
 use Rattle.wac_types_base.specs.Entries.{Name, value_at, with_values}
 use Rattle.wac_types_base.specs.Stated.{Stated}
 use Rattle.wac_types_names.specs.Keys.{Key}
+use Rattle.wac_composition.specs.Composition.{Origin, imported, instance, projected, defined}
 use Rattle.wac_parser_tree.specs.Trees as t
 use Rattle.wac_parser_tree.specs.Trees.{Span}
 use Rattle.wac_parser_refusals.specs.Causes.{Answer, ◌>>◌, pure, present, UndefinedName}
 use Rattle.wac_parser_declare.specs.Packages.{Content}
 use Rattle.wac_parser_declare.specs.Scope.{Scope, Context, Meant, bind}
 
--- where something comes from, by the names that import statements and declarations have
-pub data Origin : Type 0 where
-  imported : Name → Origin
-  -- the instance of this number
-  instance : ℕ → Origin
-  projected : Origin → Name → Origin
-  -- the definition of this name and type
-  defined : Name → Stated → Origin
-
--- with the type by which steps go
+-- where something comes from, by the names that import statements and declarations have, with the type by which steps go
 pub record Denoted : Type 0 where
-  pub origin : Origin
+  pub origin : Origin ℕ
   pub item : Stated
 
 -- a `new`: the package, its world, what its imports are bound to, where its package is named
@@ -97,25 +89,25 @@ abbrev pub projection : Denoted → Name → Stated → Denoted
 projection d n x = record { origin = projected d.origin n; item = x }
 
 -- the name of an import or an alias
-abbrev pub own_name : Origin → Option Name
+abbrev pub own_name : Origin ℕ → Option Name
 own_name (imported n) = Some n
 own_name (projected o n) = Some n
 own_name (instance k) = None
 own_name (defined n x) = None
 
-abbrev pub is_own_definition : Origin → Bool
+abbrev pub is_own_definition : Origin ℕ → Bool
 is_own_definition (defined n x) = true
 is_own_definition o = false
 
 -- two are one thing
-abbrev pub same_origin : Origin → Origin → Bool
+abbrev pub same_origin : Origin ℕ → Origin ℕ → Bool
 same_origin (imported m) (imported n) = bytes_eq m n
 same_origin (instance j) (instance k) = j == k
 same_origin (projected o m) (projected p n) = same_origin o p && bytes_eq m n
 same_origin (defined m x) (defined n y) = bytes_eq m n
 same_origin o p = false
 
-abbrev pub is_projection : Origin → Bool
+abbrev pub is_projection : Origin ℕ → Bool
 is_projection (projected o n) = true
 is_projection o = false
 

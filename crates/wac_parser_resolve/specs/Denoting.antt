@@ -1,5 +1,5 @@
 -- What expressions denote. Each makes its instances, in the order in which they are complete.
-use Rattle.std.specs.Prelude.{Bool, true, false, not, ◌&&◌, List, [], ◌∷◌, ◌++◌, map, length, Option, Some, None, is_some, filter, find, ⊤, bytes_eq, unwrap_or, option_map, if◌then◌else◌}
+use Rattle.std.specs.Prelude.{ℕ, Bool, true, false, not, ◌&&◌, List, [], ◌∷◌, ◌++◌, map, length, Option, Some, None, is_some, filter, find, ⊤, bytes_eq, unwrap_or, option_map, if◌then◌else◌}
 use Rattle.std.specs.Option.{option_or}
 use Rattle.semver.specs.Parse.{Parts}
 use Rattle.wac_types_base.specs.Entries.{Name, value_at, names_of, has_name}
@@ -9,6 +9,7 @@ use Rattle.wac_types_fit.specs.declared.checker.SubtypeCheck.{SubtypeCheck}
 use Rattle.wac_composition.specs.Tests.{fits}
 use Rattle.wac_composition.specs.Classes.{is_instance_kind}
 use Rattle.wac_types_written.specs.Written.{written_definition}
+use Rattle.wac_composition.specs.Composition.{Origin, instance, defined}
 use Rattle.wac_parser_tree.specs.Trees as t
 use Rattle.wac_parser_tree.specs.Trees.{Span}
 use Rattle.wac_parser_tree.specs.Accessors.{argument_name_span as argument_span, postfix_expr_span as postfix_span, primary_expr_span as primary_span}
@@ -20,7 +21,7 @@ use Rattle.wac_parser_refusals.specs.Sources.{between}
 use Rattle.wac_parser_declare.specs.Scope.{world_of_package}
 use Rattle.wac_parser_resolve.specs.Choosing.{greatest_on}
 use Rattle.wac_parser_resolve.specs.Matching.{matched}
-use Rattle.wac_parser_resolve.specs.Ascribing.{Origin, instance, defined, Denoted, Made, State, denoted_by, projection, own_name, speak_of, worlds_of}
+use Rattle.wac_parser_resolve.specs.Ascribing.{Denoted, Made, State, denoted_by, projection, own_name, speak_of, worlds_of}
 
 -- an operation asks for an instance
 abbrev pub asks_instance : Stated → InstanceOperation → Span → Answer ⊤
@@ -121,7 +122,7 @@ abbrev pub fitting : SubtypeCheck → Stated → Stated → Fault → Option Spa
 fitting way given asked f s = needs (fits given asked) (record { fault = f; span = s; source = between way given asked })
 
 -- a definition is compared as it is written
-abbrev pub compared_by : Origin → Stated → Stated
+abbrev pub compared_by : Origin ℕ → Stated → Stated
 compared_by (defined n y) x = written_definition x
 compared_by o x = x
 

@@ -12,10 +12,11 @@ use Rattle.wac_graph_core.specs.Nodes.{NodeData, Role}
 use Rattle.wac_graph_core.specs.NodeMaps.{IsImport, Rises}
 use Rattle.wac_graph_core.specs.Edges.{HasAlias, HasArgument}
 use Rattle.wac_graph_core.specs.Graph.{Graph, IsOfKind, instantiated, is_instance, node_at}
+use Rattle.wac_composition.specs.Composition.{Origin, imported, instance, projected, defined}
 use Rattle.wac_parser_tree.specs.Trees.{Span}
 use Rattle.wac_parser_declare.specs.Holding.{Holds}
 use Rattle.wac_parser_resolve.specs.declared.arguments.Given.{Given}
-use Rattle.wac_parser_resolve.specs.Ascribing.{Origin, imported, instance, projected, defined, Denoted, Made, Bound, State}
+use Rattle.wac_parser_resolve.specs.Ascribing.{Denoted, Made, Bound, State}
 use Rattle.wac_parser_resolve.specs.Denoting as stated
 use Rattle.wac_parser_resolve.specs.Denoting.{given_names}
 use Rattle.wac_parser_resolve.specs.Later.{first_name}
@@ -44,7 +45,7 @@ pub record IsDefinition (g : Graph) (k : ℕ) (n : Name) : Type 0 where
   pub first : first_name g.exports k ≡ Some n
 
 -- the node is what the origin says, where the instances that a document makes are these, in order
-abbrev pub IsNode : Graph → List ℕ → Origin → ℕ → Type 0
+abbrev pub IsNode : Graph → List ℕ → Origin ℕ → ℕ → Type 0
 IsNode g ms (imported n) k = IsImport g.nodes k n
 IsNode g ms (instance i) k = (slice_get ms i ≡ Some k) × IsSome (instantiated g k)
 IsNode g ms (projected o n) k = (j : ℕ) × IsNode g ms o j × IsOfKind g j (λ x. is_instance x ≡ true) × HasAlias g.edges j n k

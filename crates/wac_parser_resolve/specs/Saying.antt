@@ -1,10 +1,11 @@
 -- What each statement adds to what the ones before said, or its cause.
-use Rattle.std.specs.Prelude.{Bool, true, false, not, List, [], ◌∷◌, ◌++◌, Option, Some, None, is_some, is_none, filter, find, ⊤, bytes_eq, unwrap_or, if◌then◌else◌}
+use Rattle.std.specs.Prelude.{ℕ, Bool, true, false, not, List, [], ◌∷◌, ◌++◌, Option, Some, None, is_some, is_none, filter, find, ⊤, bytes_eq, unwrap_or, if◌then◌else◌}
 use Rattle.wac_types_base.specs.declared.item.ExternKind.{ExternKind}
 use Rattle.wac_types_base.specs.Entries.{Name, value_at, names_of}
 use Rattle.wac_types_base.specs.Stated.{Stated, Kind, IsInstance, IsComponent, kind_of, desc, promote, exports_of, identifier_of}
 use Rattle.wac_types_names.specs.Keys.{Key}
 use Rattle.wac_types_names.specs.InterfaceNames.{is_exportable, is_extern_name}
+use Rattle.wac_composition.specs.Composition.{Origin, imported, defined}
 use Rattle.wac_parser_tree.specs.Trees as t
 use Rattle.wac_parser_tree.specs.Trees.{Span}
 use Rattle.wac_parser_refusals.specs.declared.error.InstanceOperation.{InstanceOperation}
@@ -15,7 +16,7 @@ use Rattle.wac_parser_declare.specs.Scope.{named, path_item}
 use Rattle.wac_parser_declare.specs.Declarations.{free}
 use Rattle.wac_parser_declare.specs.Interfaces.{inline_interface}
 use Rattle.wac_parser_declare.specs.Worlds.{type_statement}
-use Rattle.wac_parser_resolve.specs.Ascribing.{Origin, imported, defined, Denoted, Import, Bound, State, start, root_scope, context, bound, own_name, same_origin, speak_of, is_own_definition}
+use Rattle.wac_parser_resolve.specs.Ascribing.{Denoted, Import, Bound, State, start, root_scope, context, bound, own_name, same_origin, speak_of, is_own_definition}
 use Rattle.std.specs.Option.{option_or}
 use Rattle.wac_parser_resolve.specs.Denoting.{denote, export_named, instance_identifier, needs_instance}
 
@@ -79,7 +80,7 @@ import_statement g x = do
 
 -- ---- where exports stand: one place is kept of each thing, that of its last name
 
-abbrev pub last_span : Span → Origin → List (Name × Bound) → Span
+abbrev pub last_span : Span → Origin ℕ → List (Name × Bound) → Span
 last_span s o [] = s
 last_span s o (e ∷ es) = last_span (if same_origin o e.1.denoted.origin then e.1.span else s) o es
 

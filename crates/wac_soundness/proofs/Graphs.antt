@@ -23,7 +23,7 @@ use Rattle.wac_graph_core.specs.Walking.{first_argument}
 use Rattle.wac_graph_core.specs.Graph.{Graph, IsGraph, node_at, package_in, package_if, package_made, instantiated, passed_as, passed}
 use Rattle.wac_graph_core.proofs.Found.{argument_found}
 use Rattle.wac_graph_core.proofs.Listed.{Among-entries}
-use Rattle.wac_graph_asks.specs.Graphs.{nodes_of, item_of, item_at, origin_of, import_by, made_with, composition_of}
+use Rattle.wac_graph_asks.specs.Graphs.{nodes_of, first_export, item_of, item_at, origin_of, import_by, made_with, composition_of}
 use Rattle.wac_graph_asks.proofs.Origins.{among_mapped, node_among, origin_alias, origin_role, made_of, made_among, argument_is}
 use Rattle.wac_soundness.specs.Sound.{IsTyped, an_import, an_instance, an_export, a_definition, IsPassed}
 use Rattle.wac_soundness.proofs.Typed.{defined_type, defined_form, instance_kind}
@@ -85,8 +85,8 @@ module _ (g : Graph) (sound : IsGraph g) (acyclic : IsAcyclic g.types) where
           (an_instance (made_of g sound acyclic k p.0) (made_among g sound acyclic k p.0 (ap (package_made g) at ∙ ap (package_if g) id.1 ∙ p.1))))
       by_role rest Role.Defined e =
           let n = sound.nodes k x at in
-          comes (defined (item_of g x)) (origin_role g sound acyclic k x Role.Defined at e)
-          (a_definition (item_of g x) (defined_type g.types acyclic x.item_kind n.item (n.defined e)) (defined_form g.types acyclic x.item_kind n.item (n.defined e)))
+          comes (defined (first_export g.exports k) (item_of g x)) (origin_role g sound acyclic k x Role.Defined at e)
+          (a_definition (first_export g.exports k) (item_of g x) (defined_type g.types acyclic x.item_kind n.item (n.defined e)) (defined_form g.types acyclic x.item_kind n.item (n.defined e)))
       by_role rest Role.Aliased e =
           let s = sound.wired.sources k x at e in
           let f = (sound.wired.edges (alias_edge s.0 k s.1) s.2).export s.1 refl in
@@ -111,7 +111,7 @@ module _ (g : Graph) (sound : IsGraph g) (acyclic : IsAcyclic g.types) where
       by_role : ((i : ℕ) (y : NodeData) → node_at g i ≡ Some y → rank i < d → rank i < r → IsBefore r (origin_renamed rank (origin_of g i))) → (q : Role) → x.role ≡ q → IsBefore r (origin_renamed rank (origin_of g k))
       by_role rest (Role.Imported n) e = comes (imported n) (origin_role g sound acyclic k x (Role.Imported n) at e) tt
       by_role rest Role.Instance e = comes (instance k) (origin_role g sound acyclic k x Role.Instance at e) b
-      by_role rest Role.Defined e = comes (defined (item_of g x)) (origin_role g sound acyclic k x Role.Defined at e) tt
+      by_role rest Role.Defined e = comes (defined (first_export g.exports k) (item_of g x)) (origin_role g sound acyclic k x Role.Defined at e) tt
       by_role rest Role.Aliased e =
           let s = sound.wired.sources k x at e in
           let f = (sound.wired.edges (alias_edge s.0 k s.1) s.2).export s.1 refl in
@@ -129,7 +129,7 @@ module _ (g : Graph) (sound : IsGraph g) (acyclic : IsAcyclic g.types) where
       by_role : (r : Role) → x.role ≡ r → given_as (origin_of g k) (item_of g x) ≡ passed g.types x
       by_role (Role.Imported n) e = comes (Role.Imported n) (imported n) e (origin_role g sound acyclic k x (Role.Imported n) at e) refl
       by_role Role.Instance e = comes Role.Instance (instance k) e (origin_role g sound acyclic k x Role.Instance at e) refl
-      by_role Role.Defined e = comes Role.Defined (defined (item_of g x)) e (origin_role g sound acyclic k x Role.Defined at e) refl
+      by_role Role.Defined e = comes Role.Defined (defined (first_export g.exports k) (item_of g x)) e (origin_role g sound acyclic k x Role.Defined at e) refl
       by_role Role.Aliased e =
           let s = sound.wired.sources k x at e in
           comes Role.Aliased (projected (origin_of g s.0) s.1) e (origin_alias g sound acyclic s.0 k s.1 s.2) refl

@@ -208,7 +208,7 @@ module _ {A : Type 0} (c : Composition A ℕ) (sound : IsSoundByNumber c) where
       subst (HasType by_place (instance (place m.number))) (same_instance m (open_imports m))
       (of_instance (place m.number) (called (opened m)) (to_place (place m.number) (opened m) (at_place m a)))
   typed o x (an_export p z n y h k e) = of_export (origin_renamed place p) z n y (typed p z h) k e
-  typed o x (a_definition y k d) = of_definition y k d
+  typed o x (a_definition n y k d) = of_definition n y k d
 
   before : (k : ℕ) (o : Origin ℕ) (x : Stated) → length (map opened c.made) ≤ k → IsTyped c o x → IsBefore k (origin_renamed place o)
   before k o x b (an_import i m) = tt
@@ -217,13 +217,13 @@ module _ {A : Type 0} (c : Composition A ℕ) (sound : IsSoundByNumber c) where
       let l = slice_get_within (map opened c.made) (place m.number) (opened m) i in
       omega (arith, b, l)
   before k o x b (an_export p z n y h e v) = before k p z b h
-  before k o x b (a_definition y t d) = tt
+  before k o x b (a_definition n y t d) = tt
 
   given_same : (o : Origin ℕ) (x : Stated) → given_as (origin_renamed place o) x ≡ given_as o x
   given_same (imported n) x = refl
   given_same (instance k) x = refl
   given_same (projected o n) x = refl
-  given_same (defined y) x = refl
+  given_same (defined n y) x = refl
 
   -- an argument's name is one that is given
   name_given : (m : Made A ℕ) (n : Name) (o : Origin ℕ) → value_at m.arguments n ≡ Some o → is_given m n ≡ true
@@ -275,7 +275,7 @@ module _ {A : Type 0} (c : Composition A ℕ) (sound : IsSoundByNumber c) where
   source_back as_ o x (an_import i m) = refl
   source_back as_ o x (an_instance m a) = ap Inst (number_back m a)
   source_back as_ o x (an_export p z n y h k e) = replace-project Outer (λ k. Inst (number_at k)) (source_of as_ (origin_renamed place p)) n ∙ ap (λ s. project s n) (source_back as_ p z h)
-  source_back as_ o x (a_definition y k d) = refl
+  source_back as_ o x (a_definition n y k d) = refl
 
   -- ---- exports
 

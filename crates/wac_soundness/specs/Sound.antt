@@ -22,7 +22,7 @@ pub data IsTyped {A : Type 0} (c : Composition A ℕ) : Origin ℕ → Stated �
   an_instance : (m : Made A ℕ) → Among m c.made → IsTyped c (instance m.number) (instance_type m.world)
   an_export : (o : Origin ℕ) (x : Stated) (n : Name) (y : Stated) → IsTyped c o x → is_instance_kind (kind_of x) ≡ true
       → value_at (exports_of x) n ≡ Some y → IsTyped c (projected o n) y
-  a_definition : (x : Stated) → is_type (kind_of x) ≡ true → IsDefinition (tree (written_definition x)) → IsTyped c (defined x) x
+  a_definition : (n : Name) (x : Stated) → is_type (kind_of x) ≡ true → IsDefinition (tree (written_definition x)) → IsTyped c (defined n x) x
 
 -- an argument of the instance of this number, for an import of this type: it fits, and speaks of instances of lower rank
 pub record IsPassed {A : Type 0} (c : Composition A ℕ) (rank : ℕ → ℕ) (k : ℕ) (o : Origin ℕ) (asked : Stated) : Type 0 where

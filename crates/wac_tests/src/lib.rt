@@ -1,5 +1,5 @@
-//! Streams, places, worlds made by calls, plugging as a text and refused growths, by the calls that `wac` passes on. What runs
-//! of the program and steps of a workspace come to is shown by the rows of `wac_all_rows`.
+//! Streams, places, worlds made by calls, plugging as a text and refused growths, by the calls that `wac` passes on, and lists
+//! in the order of their keys. What runs of the program and steps of a workspace come to is shown by the rows of `wac_all_rows`.
 #![tactic(auto)]
 
 #[cfg(test)]
@@ -16,6 +16,8 @@ mod place_rows;
 mod plug_text;
 #[cfg(test)]
 mod readme;
+#[cfg(test)]
+mod sorted_rows;
 #[cfg(test)]
 mod streams;
 #[cfg(test)]

@@ -113,13 +113,13 @@ impl<T: Once> Entries<T> {
     }
 
     /// Gives an index another place.
-    fn point(&mut self, at: usize, place: usize)
+    fn point(&mut self, at: usize, to: usize)
         requires at { at < length self.old.given }
-        requires place { place < length self.old.kept }
+        requires place { to < length self.old.kept }
         ensures kept { self.new.kept ≡ self.old.kept }
-        ensures given { (x : T) → slice_get self.old.kept place ≡ Some x → self.new.given ≡ slice_set self.old.given at x }
+        ensures given { (x : T) → slice_get self.old.kept to ≡ Some x → self.new.given ≡ slice_set self.old.given at x }
     {
-        self.places[at] = place;
+        self.places[at] = to;
     }
 
     /// Gives an index another entry. Nothing is written through the one that it had.

@@ -1,6 +1,5 @@
 //! The parts of interfaces and worlds, by their ids, and maps by names that are copied.
 #![tactic(auto)]
 
-pub mod called;
 pub mod maps;
 pub mod parts;

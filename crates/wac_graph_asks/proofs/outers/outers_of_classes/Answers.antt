@@ -28,7 +28,7 @@ returns-clause-outers c =
     outers_so c.outers_kept.result c.args.asked.now.types c.all_taken.new.types c.outers_kept.new.asked.types c.args.asked.now.asks.items c.args.classes.now c.in_ok-taken.taken.entries c.all_taken.ensures.grows
     (subst (λ (ls : List ℕ). TakesAll c.args.asked.now.types c.args.asked.now.asks.items ls c.all_taken.new.types c.in_ok-taken.taken.entries) c.deref-2.ensures.value
     (subst (λ (xs : List Ask). TakesAll c.args.asked.now.types xs c.deref-2.result.now c.all_taken.new.types c.in_ok-taken.taken.entries) c.deref.ensures.value c.in_ok-taken.ensures.takes))
-    c.outers_kept.ensures.imports c.outers_kept.ensures.called c.outers_kept.ensures.stands
+    c.outers_kept.ensures.imports c.outers_kept.ensures.places c.outers_kept.ensures.stands
 
 pub returns-clause-refused : goal.returns-clause-refused
 returns-clause-refused c = no_conflict c.outers_kept.result (RefusesAll c.args.asked.now.types c.args.asked.now.asks.items c.args.classes.now.labels.items) c.outers_kept.ensures.no_conflict

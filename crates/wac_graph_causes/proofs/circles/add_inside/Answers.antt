@@ -1,5 +1,5 @@
 use Rattle.std.specs.List.{flat_map}
-use Rattle.std.proofs.Common.{◌+◌, ◌++◌, [], get_or, map, take, sym, ap, subst, ◌∙◌}
+use Rattle.std.proofs.Common.{◌+◌, ◌++◌, get_or, map, take, sym, ap, subst, ◌∙◌}
 use Rattle.wac_types_base.specs.declared.ids.WorldId.{WorldId}
 use Rattle.wac_types_base.specs.Graph.{Among}
 use Rattle.wac_types_base.specs.Stated.{stated_of}
@@ -45,7 +45,7 @@ loop-world-preserved c =
     record {
       grows = Grows-trans old mid new g c.in_ok-add_component.ensures.grows;
       adds = adds_as old new c.args.all.now.items c.add_component.new.all.items _ (inside_of old n (take (i + 1) ws))
-          (ap (λ l. inside_of old n (take i ws) ++ map (named n) l) (world_kept old mid c.see_acyclic.ensures g [] w stands) ∙ inside_more old n ws i w at)
+          (ap (λ l. inside_of old n (take i ws) ++ map (named n) l) (world_kept old mid c.see_acyclic.ensures g (λ n. n) w stands) ∙ inside_more old n ws i w at)
           (adds_then old mid new c.args.all.now.items c.loop-world.all.items c.add_component.new.all.items _ _ c.loop-world.invariant.adds c.in_ok-add_component.ensures.adds);
     }
 

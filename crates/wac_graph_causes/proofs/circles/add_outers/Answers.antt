@@ -2,7 +2,6 @@ use Rattle.std.proofs.lemmas.Result.{on_ok_weaker}
 use Rattle.std.proofs.Common.{sym, subst}
 use Rattle.wac_types_written.specs.Forms.{ItemsStand}
 use Rattle.wac_types_written.proofs.Growing.{items_stand_kept}
-use Rattle.wac_graph_causes.specs.Spelling.{SpellsAll}
 use Rattle.wac_graph_causes.proofs.CircleLaws.{outers_added}
 use Rattle.wac_graph_causes.proofs.LateLaws.{imports_stand}
 use Rattle.wac_graph_causes.proofs.circles.add_outers.Goals as goal
@@ -19,9 +18,7 @@ returns-clause-adds c =
     let mid = c.add_world.new.types in
     let o = c.args.outers.now in
     let imports = c.in_ok-imports.imports in
-    let es = c.in_ok-spelled.spelled in
     let stand = subst (ItemsStand old) (sym c.in_ok-imports.ensures) (imports_stand old c.see_acyclic.ensures o.world) in
-    let called = subst (λ l. SpellsAll old o.world l es) c.deref.ensures.value c.in_ok-spelled.ensures in
     on_ok_weaker c.add_all_inside.result
-    (λ h. outers_added old mid c.add_all_inside.new.types c.in_ok-add_world.ensures.grows o es imports c.in_ok-imports.ensures stand called c.args.all.now.items c.add_world.new.all.items c.add_all_inside.new.all.items c.in_ok-add_world.ensures.adds h)
+    (λ h. outers_added old mid c.add_all_inside.new.types c.in_ok-add_world.ensures.grows o imports c.in_ok-imports.ensures stand c.args.all.now.items c.add_world.new.all.items c.add_all_inside.new.all.items c.in_ok-add_world.ensures.adds h)
     c.add_all_inside.ensures.adds

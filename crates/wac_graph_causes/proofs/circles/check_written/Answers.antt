@@ -1,5 +1,5 @@
 use Rattle.std.specs.Option.{option_or}
-use Rattle.std.proofs.Common.{sym, subst, true, false}
+use Rattle.std.proofs.Common.{sym, subst, true}
 use Rattle.std.proofs.lemmas.Result.{IfErr-weaker, err_from_is_err_and}
 use Rattle.wac_graph_causes.specs.Circling.{TellsHeld, late_cause}
 use Rattle.wac_graph_causes.specs.Late.{AreLate}

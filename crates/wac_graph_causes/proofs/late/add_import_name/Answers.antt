@@ -1,6 +1,5 @@
-use Rattle.std.proofs.Common.{◌+◌, ap, sym, ◌∙◌, arith, subst}
+use Rattle.std.proofs.Common.{ap, sym, ◌∙◌, arith}
 use Rattle.wac_types_base.specs.Entries.{names_of, put_name}
-use Rattle.wac_types_base.specs.Graph.{Among}
 use Rattle.wac_types_base.proofs.Looked.{put_name-new, distinct-before, take-one_more}
 use Rattle.std.proofs.lemmas.Result.{on_ok_weaker}
 use Rattle.wac_types_parts.specs.Parts.{imports_of}

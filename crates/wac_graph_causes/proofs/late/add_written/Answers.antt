@@ -19,7 +19,7 @@ returns-in_default-clause-adds c =
     let n = c.args.name.now in
     let es = c.args.all.now.items in
     adds_as d d es es [] (written_beside d st xs n)
-    (ap (λ o. under (spelled_in st.spelled.now) [] n (option_map (beside (stands_by st)) o)) (sym (value_with (stated_of d) xs n ∙ ap (option_map (stated_of d)) (sym c.in_default.ensures))))
+    (ap (λ o. under (spelled_in st.placed) [] n (option_map (beside (stands_by st)) o)) (sym (value_with (stated_of d) xs n ∙ ap (option_map (stated_of d)) (sym c.in_default.ensures))))
     (adds_nothing d d (Grows-refl d c.see_acyclic.ensures) es)
 
 pub beside-requires : goal.beside-requires
@@ -37,5 +37,5 @@ returns-clause-adds c =
     let l : Late = record { name = c.in_ok-name.name; item = c.in_ok-item.item } in
     adds_as d new es c.push.new.self.items ((l.name, x) ∷ []) (written_beside d st xs n)
     ((λ i. (c.in_ok-name.ensures i, x) ∷ [])
-    ∙ ap (λ o. under (spelled_in st.spelled.now) [] n (option_map (beside (stands_by st)) o)) (sym (value_with (stated_of d) xs n ∙ ap (option_map (stated_of d)) (sym c.in-Some.ensures))))
+    ∙ ap (λ o. under (spelled_in st.placed) [] n (option_map (beside (stands_by st)) o)) (sym (value_with (stated_of d) xs n ∙ ap (option_map (stated_of d)) (sym c.in-Some.ensures))))
     (adds_one d new c.in_ok-item.ensures.grows l x es c.push.new.self.items c.in_ok-item.ensures.beside c.in_ok-push.ensures.items)

@@ -1,29 +1,15 @@
-use Rattle.std.proofs.Common.{ap, sym, ◌∙◌, subst, ◌<◌}
-use Rattle.wac_graph_core.specs.Edges.{has, at_start}
-use Rattle.wac_graph_core.specs.Walking.{outside, first_new}
-use Rattle.wac_graph_core.proofs.Walks.{has-kept, step_smaller, step_known, complete_at_end}
+use Rattle.std.proofs.Common.{◌<◌, ◌≤◌, length, get_or, ap, ◌∙◌, subst}
+use Rattle.wac_graph_core.proofs.Following.{walk_begins, walks_on, walk_ends, walk_smaller, here}
 use Rattle.wac_graph_core.proofs.edge.reached.Goals as goal
 
-pub loop-next-init : goal.loop-next-init
-loop-next-init c = (λ k h. h, λ k h. at_start h)
+pub loop-at-init : goal.loop-at-init
+loop-at-init c = walk_begins c.args.follow c.args.edges.now c.args.starts
 
-pub loop-next-smaller : goal.loop-next-smaller
-loop-next-smaller c =
-    let found = ap (λ s. first_new c.args.follow s c.args.edges.now) (sym c.as_slice.ensures.value) ∙ sym c.next_reached.ensures ∙ c.in-Some.is in
-    let less = step_smaller c.args.follow c.args.edges.now c.args.starts.items c.loop-next.seen.items c.in-Some.next found in
-    subst (λ s. outside s c.args.edges.now < outside c.loop-next.seen.items c.args.edges.now) (sym c.in_ok-push.ensures.items) less
+pub loop-at-preserved : goal.loop-at-preserved
+loop-at-preserved c = walks_on c.args.follow c.args.edges.now c.args.starts c.loop-at.seen c.follow_from.new.seen c.loop-at.at c.index-as_slice-at.result (subst (λ l. c.loop-at.at < length l) c.as_slice.ensures.value c.loop-at-test.true) (c.index-as_slice-at.is ∙ ap (λ l. get_or l c.loop-at.at c.index-as_slice-at.result) c.as_slice-in-loop-at.ensures.value) (here c.loop-at.seen c.loop-at.at c.index-as_slice-at.result (subst (λ l. c.loop-at.at < length l) c.as_slice.ensures.value c.loop-at-test.true) (c.index-as_slice-at.is ∙ ap (λ l. get_or l c.loop-at.at c.index-as_slice-at.result) c.as_slice-in-loop-at.ensures.value)) c.in_ok-follow_from.ensures c.loop-at.invariant
 
-pub loop-next-preserved : goal.loop-next-preserved
-loop-next-preserved c =
-    let found = ap (λ s. first_new c.args.follow s c.args.edges.now) (sym c.as_slice.ensures.value) ∙ sym c.next_reached.ensures ∙ c.in-Some.is in (
-      λ k h. ap (λ s. has s k) c.in_ok-push.ensures.items ∙ has-kept c.loop-next.seen.items c.in-Some.next k (c.loop-next.invariant.0 k h),
-      λ k there. step_known c.args.follow c.args.edges.now c.args.starts.items c.loop-next.seen.items c.in-Some.next found c.loop-next.invariant.1 k (ap (λ s. has s k) (sym c.in_ok-push.ensures.items) ∙ there),
-    )
+pub loop-at-smaller : goal.loop-at-smaller
+loop-at-smaller c = walk_smaller c.args.follow c.args.edges.now c.args.starts c.loop-at.seen c.follow_from.new.seen c.loop-at.at c.index-as_slice-at.result (subst (λ l. c.loop-at.at < length l) c.as_slice.ensures.value c.loop-at-test.true) c.in_ok-follow_from.ensures
 
 pub returns : goal.returns
-returns c =
-    let done = ap (λ s. first_new c.args.follow s c.args.edges.now) (sym c.as_slice.ensures.value) ∙ sym c.next_reached.ensures ∙ c.in_default.is in
-    record {
-      sound = c.loop-next.invariant.1;
-      complete = complete_at_end c.args.follow c.args.edges.now c.args.starts.items c.loop-next.seen.items c.loop-next.invariant.0 done;
-    }
+returns c = record { sound = c.loop-at.invariant.sound; complete = walk_ends c.args.follow c.args.edges.now c.args.starts c.loop-at.seen c.loop-at.at (subst (λ l. length l ≤ c.loop-at.at) c.as_slice.ensures.value c.loop-at-test.false) c.loop-at.invariant }

@@ -1,11 +1,10 @@
-use Rattle.std.proofs.Common.{◌≡◌, ℕ, true}
-use Rattle.wac_graph_core.specs.Edges.{has, Reaches}
+use Rattle.std.proofs.Common.{◌+◌, ◌-◌, length}
 use Rattle.wac_graph_core.specs.Walking.{outside}
+use Rattle.wac_graph_core.proofs.Following.{IsWalking}
 use Rattle.wac_graph_core.proofs.edge.reached.Given as goal
 
--- the starts are there, and each node that is there is reached
-abbrev pub invariant-loop-next : goal.invariant-loop-next
-invariant-loop-next l = ((k : ℕ) → has l.fn.starts.items k ≡ true → has l.seen.items k ≡ true) × ((k : ℕ) → has l.seen.items k ≡ true → Reaches l.follow l.edges l.fn.starts.items k)
+abbrev pub invariant-loop-at : goal.invariant-loop-at
+invariant-loop-at l = IsWalking l.follow l.edges l.fn.starts l.seen l.at
 
-abbrev pub decreases-loop-next : goal.decreases-loop-next
-decreases-loop-next l = outside l.seen.items l.edges
+abbrev pub decreases-loop-at : goal.decreases-loop-at
+decreases-loop-at l = outside l.seen l.edges + length l.seen - l.at

@@ -1,5 +1,4 @@
-use Rattle.std.proofs.Common.{List, subst}
-use Rattle.std.specs.Prelude.{Option}
+use Rattle.std.proofs.Common.{subst}
 use Rattle.std.proofs.lemmas.Result.{on_ok_weaker}
 use Rattle.wac_graph_encode.specs.Rooting.{IsRepeatedBy}
 use Rattle.wac_graph_encode.proofs.Rooting.{adds_plain}

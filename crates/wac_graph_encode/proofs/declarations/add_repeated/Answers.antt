@@ -1,10 +1,10 @@
-use Rattle.std.proofs.Common.{◌≡◌, ℕ, List, [], ◌∷◌, ◌++◌, map, Option, Some, None, refl, sym, ap, subst, ◌∙◌}
+use Rattle.std.proofs.Common.{◌≡◌, ℕ, Some, None, sym, ap, subst, ◌∙◌}
 use Rattle.std.specs.Prelude.{option_map}
 use Rattle.std.proofs.lemmas.List.{append-nil}
 use Rattle.std.proofs.lemmas.Result.{on_ok_weaker}
 use Rattle.wac_types_base.specs.Entries.{Name}
-use Rattle.wac_graph_bytes.specs.Entries.{Entry, End}
-use Rattle.wac_graph_bytes.specs.Views.{view, before}
+use Rattle.wac_graph_bytes.specs.Entries.{End}
+use Rattle.wac_graph_bytes.specs.Views.{before}
 use Rattle.wac_graph_bytes.specs.declared.entry.Declaration.{Declaration}
 use Rattle.wac_graph_scopes.specs.Roots.{if_new}
 use Rattle.wac_graph_encode.specs.Rooting.{AddsRead, early_in, early_named, plain_entries}

@@ -4,7 +4,7 @@ use Rattle.std.proofs.lemmas.Option.{slice_get-get_or}
 use Rattle.wac_types_base.specs.Entries.{Name}
 use Rattle.wac_types_base.proofs.Looked.{take-one_more}
 use Rattle.wac_graph_encode.specs.Writing.{AddsAt, AddsExports, exports_at, other_exports}
-use Rattle.wac_graph_encode.proofs.Rearranging.{adds_none, adds_more, exports_next, others_next}
+use Rattle.wac_graph_encode.proofs.Rearranging.{adds_more, exports_next, others_next}
 use Rattle.wac_graph_encode.proofs.instances.push_in_order.Goals as goal
 
 pub loop-at-preserved : goal.loop-at-preserved

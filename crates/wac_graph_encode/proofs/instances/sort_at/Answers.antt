@@ -1,6 +1,6 @@
 use Rattle.std.proofs.Common.{sym, ap, ◌∙◌}
 use Rattle.wac_graph_scopes.specs.Items.{sort_of}
-use Rattle.wac_graph_encode.proofs.Readying.{kind_known, kind_there, no_kind}
+use Rattle.wac_graph_encode.proofs.Readying.{kind_there}
 use Rattle.wac_graph_encode.proofs.instances.sort_at.Goals as goal
 
 pub returns : goal.returns

@@ -23,7 +23,7 @@ add_export-requires-clause-there c =
     c.see_sound.ensures.exported.stand e.0 e.1 (among-get es c.loop-at.at e at)
 
 pub add_export-requires-clause-finals : goal.add_export-requires-clause-finals
-add_export-requires-clause-finals c = finals_kept c.args.graph.now c.args.types.now c.loop-at.types c.loop-at.invariant.grows c.args.finals.now c.requires.finals
+add_export-requires-clause-finals c = finals_kept c.args.graph.now c.args.types.now c.loop-at.types c.see_acyclic.ensures c.loop-at.invariant.grows c.args.finals.now c.requires.finals
 
 pub loop-at-preserved : goal.loop-at-preserved
 loop-at-preserved c =

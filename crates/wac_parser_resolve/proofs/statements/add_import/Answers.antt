@@ -1,10 +1,11 @@
 use Rattle.std.proofs.Common.{ap, subst, ◌∙◌}
 use Rattle.std.specs.Prelude.{⊤, Bool, Option}
+use Rattle.wac_composition.specs.Composition.{imported}
 use Rattle.wac_parser_tree.specs.Trees as t
 use Rattle.wac_parser_tree.specs.Views.{view_extern_name, view_import_statement}
 use Rattle.wac_parser_refusals.specs.Causes.{Cause}
 use Rattle.wac_parser_refusals.specs.Views.{Names}
-use Rattle.wac_parser_resolve.specs.Ascribing.{Import, State, imported}
+use Rattle.wac_parser_resolve.specs.Ascribing.{Import, State}
 use Rattle.wac_parser_resolve.specs.InStatements.{import_cause}
 use Rattle.wac_parser_resolve.specs.Said.{IsSaid}
 use Rattle.wac_parser_resolve.specs.Saying.{with_import}

@@ -1,6 +1,7 @@
 use Rattle.std.proofs.Common.{ap, subst, ◌∙◌}
 use Rattle.std.specs.Prelude.{⊤, Option}
 use Rattle.wac_types_base.specs.Stated.{Stated}
+use Rattle.wac_composition.specs.Composition.{defined}
 use Rattle.wac_parser_tree.specs.Trees as t
 use Rattle.wac_parser_tree.specs.Views.{view_ident, view_package_name, view_type_statement}
 use Rattle.wac_parser_refusals.specs.Causes.{Cause}
@@ -9,7 +10,7 @@ use Rattle.wac_parser_refusals.specs.Views.{Names}
 use Rattle.wac_parser_refusals.proofs.Outcomes.{after_outcome, after_refused, refused_outcome, then_refused}
 use Rattle.wac_parser_declare.specs.Holding.{IsType}
 use Rattle.wac_parser_declare.specs.Worlds.{type_statement}
-use Rattle.wac_parser_resolve.specs.Ascribing.{State, context, defined}
+use Rattle.wac_parser_resolve.specs.Ascribing.{State, context}
 use Rattle.wac_graph_core.specs.Graph.{Graph}
 use Rattle.wac_parser_resolve.specs.InStatements.{definition_cause}
 use Rattle.wac_parser_resolve.specs.Said.{IsSaid}

@@ -12,7 +12,7 @@ copied : goal.After-result-1 → Graph
 copied c = record {
   types = c.in_ok-types.types;
   nodes = c.in_ok-nodes.nodes;
-  edges = c.in_ok-edges.edges.items;
+  edges = c.in_ok-edges.edges;
   exports = c.in_ok-exports.exports.items;
   places = c.in_ok-places.places.items;
 }

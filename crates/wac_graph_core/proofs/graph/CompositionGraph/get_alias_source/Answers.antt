@@ -7,4 +7,4 @@ use Rattle.wac_graph_core.proofs.graph.CompositionGraph.get_alias_source.Goals a
 
 pub returns-clause-none : goal.returns-clause-none
 returns-clause-none c =
-    subst (λ es. IfNone c.find_source.result ((i : ℕ) (n : Name) → HasAlias es i n c.args.alias → ⊥)) (ap (λ (g : Graph). g.edges) c.self.view_is) c.find_source.ensures.none
+    subst (λ es. IfNone c.source.result ((i : ℕ) (n : Name) → HasAlias es i n c.args.alias → ⊥)) (ap (λ (g : Graph). g.edges) c.self.view_is) c.source.ensures.none

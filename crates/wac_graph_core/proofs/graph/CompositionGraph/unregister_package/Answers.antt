@@ -4,7 +4,7 @@ use Rattle.wac_graph_core.specs.declared.package.Place.{Place}
 use Rattle.wac_graph_core.specs.NodeMaps.{AreInstances}
 use Rattle.wac_graph_core.specs.Edges.{IsReached}
 use Rattle.wac_graph_core.specs.Graph.{Graph}
-use Rattle.wac_graph_core.specs.Removing.{IsClosed, TakesNodes}
+use Rattle.wac_graph_core.specs.Removing.{TakesNodes}
 use Rattle.wac_graph_core.specs.Packages.{left_place, PlacesGrow}
 use Rattle.wac_graph_core.specs.View.{graph}
 use Rattle.wac_graph_core.proofs.Removal.{closed_of}
@@ -15,17 +15,17 @@ use Rattle.wac_types_base.proofs.Walking.{some_place}
 
 pub remove_nodes-requires : goal.remove_nodes-requires
 remove_nodes-requires c =
-    let reached : IsReached Follow.Owned c.args.self.now.edges c.in_ok-instances.instances.items c.in_ok-gone.gone.items =
-    subst (λ es. IsReached Follow.Owned es c.in_ok-instances.instances.items c.in_ok-gone.gone.items) (c.as_slice.ensures.value ∙ ap (λ (g : Graph). g.edges) c.self.view_is) c.in_ok-gone.ensures in
-    subst (λ l. IsClosed Follow.Owned c.args.self.now.edges l) (sym c.as_slice-2.ensures.value) (closed_of Follow.Owned c.args.self.now.edges c.in_ok-instances.instances.items c.in_ok-gone.gone.items reached)
+    let reached : IsReached Follow.Owned c.args.self.now.edges c.in_ok-instances.instances.items c.in_ok-gone.gone =
+    subst (λ es. IsReached Follow.Owned es c.in_ok-instances.instances.items c.in_ok-gone.gone) (ap (λ (g : Graph). g.edges) c.self.view_is) (subst (λ ss. IsReached Follow.Owned c.self.inside.edges ss c.in_ok-gone.gone) (c.in_ok-starts.ensures ∙ c.as_slice.ensures.value) c.in_ok-gone.ensures) in
+    (closed_of Follow.Owned c.args.self.now.edges c.in_ok-instances.instances.items c.in_ok-gone.gone reached)
 
 pub index_mut-requires : goal.index_mut-requires
 index_mut-requires c =
     let starts = c.in_ok-instances.instances.items in
-    let gone = c.in_ok-gone.gone.items in
+    let gone = c.in_ok-gone.gone in
     let are = subst (λ (g : Graph). AreInstances g.nodes c.args.«package» starts) c.self.view_is c.in_ok-instances.ensures in
-    let reached = subst (λ es. IsReached Follow.Owned es starts gone) (c.as_slice.ensures.value ∙ ap (λ (g : Graph). g.edges) c.self.view_is) c.in_ok-gone.ensures in
-    let taken = subst (λ h. TakesNodes c.args.self.now h gone) (sym c.self-2.view_is) (subst (λ l. TakesNodes c.args.self.now c.remove_nodes.new.self l) c.as_slice-2.ensures.value c.remove_nodes.ensures) in
+    let reached = subst (λ es. IsReached Follow.Owned es starts gone) (ap (λ (g : Graph). g.edges) c.self.view_is) (subst (λ ss. IsReached Follow.Owned c.self.inside.edges ss c.in_ok-gone.gone) (c.in_ok-starts.ensures ∙ c.as_slice.ensures.value) c.in_ok-gone.ensures) in
+    let taken = subst (λ h. TakesNodes c.args.self.now h gone) (sym c.self-2.view_is) c.remove_nodes.ensures in
     let left = held_left c.args.self.now (graph c.self-2.inside) c.args.«package» starts gone are reached taken c.requires in
     let h : c.args.«package».place < length c.self-2.inside.places.items = some_place c.self-2.inside.places.items c.args.«package».place left.2.place left.2.there in
     omega (arith, h, c.self-2.inside.places.ok)
@@ -33,10 +33,10 @@ index_mut-requires c =
 pub give_up-requires : goal.give_up-requires
 give_up-requires c =
     let starts = c.in_ok-instances.instances.items in
-    let gone = c.in_ok-gone.gone.items in
+    let gone = c.in_ok-gone.gone in
     let are = subst (λ (g : Graph). AreInstances g.nodes c.args.«package» starts) c.self.view_is c.in_ok-instances.ensures in
-    let reached = subst (λ es. IsReached Follow.Owned es starts gone) (c.as_slice.ensures.value ∙ ap (λ (g : Graph). g.edges) c.self.view_is) c.in_ok-gone.ensures in
-    let taken = subst (λ h. TakesNodes c.args.self.now h gone) (sym c.self-2.view_is) (subst (λ l. TakesNodes c.args.self.now c.remove_nodes.new.self l) c.as_slice-2.ensures.value c.remove_nodes.ensures) in
+    let reached = subst (λ es. IsReached Follow.Owned es starts gone) (ap (λ (g : Graph). g.edges) c.self.view_is) (subst (λ ss. IsReached Follow.Owned c.self.inside.edges ss c.in_ok-gone.gone) (c.in_ok-starts.ensures ∙ c.as_slice.ensures.value) c.in_ok-gone.ensures) in
+    let taken = subst (λ h. TakesNodes c.args.self.now h gone) (sym c.self-2.view_is) c.remove_nodes.ensures in
     let left = held_left c.args.self.now (graph c.self-2.inside) c.args.«package» starts gone are reached taken c.requires in
     let same = got c.self-2.inside.places.items c.args.«package».place left.2.place c.index_mut.result.now left.2.there c.index_mut.ensures.value in
     subst (λ (x : Place). x.generation < 18446744073709551615) (sym same) (c.self-2.invariant.0.packages.low c.args.«package».place left.2.place left.2.there (subst IsSome (sym left.2.held) refl))
@@ -44,10 +44,10 @@ give_up-requires c =
 pub invariant_of-self : goal.invariant_of-self
 invariant_of-self c =
     let starts = c.in_ok-instances.instances.items in
-    let gone = c.in_ok-gone.gone.items in
+    let gone = c.in_ok-gone.gone in
     let are = subst (λ (g : Graph). AreInstances g.nodes c.args.«package» starts) c.self.view_is c.in_ok-instances.ensures in
-    let reached = subst (λ es. IsReached Follow.Owned es starts gone) (c.as_slice.ensures.value ∙ ap (λ (g : Graph). g.edges) c.self.view_is) c.in_ok-gone.ensures in
-    let taken = subst (λ h. TakesNodes c.args.self.now h gone) (sym c.self-2.view_is) (subst (λ l. TakesNodes c.args.self.now c.remove_nodes.new.self l) c.as_slice-2.ensures.value c.remove_nodes.ensures) in
+    let reached = subst (λ es. IsReached Follow.Owned es starts gone) (ap (λ (g : Graph). g.edges) c.self.view_is) (subst (λ ss. IsReached Follow.Owned c.self.inside.edges ss c.in_ok-gone.gone) (c.in_ok-starts.ensures ∙ c.as_slice.ensures.value) c.in_ok-gone.ensures) in
+    let taken = subst (λ h. TakesNodes c.args.self.now h gone) (sym c.self-2.view_is) c.remove_nodes.ensures in
     let left = held_left c.args.self.now (graph c.self-2.inside) c.args.«package» starts gone are reached taken c.requires in
     let same = got c.self-2.inside.places.items c.args.«package».place left.2.place c.index_mut.result.now left.2.there c.index_mut.ensures.value in
     let place = c.give_up.ensures ∙ ap left_place (ap (λ (x : Place). x.generation) same ∙ left.2.now) in (
@@ -59,10 +59,10 @@ invariant_of-self c =
 pub returns-clause-grow : goal.returns-clause-grow
 returns-clause-grow c =
     let starts = c.in_ok-instances.instances.items in
-    let gone = c.in_ok-gone.gone.items in
+    let gone = c.in_ok-gone.gone in
     let are = subst (λ (g : Graph). AreInstances g.nodes c.args.«package» starts) c.self.view_is c.in_ok-instances.ensures in
-    let reached = subst (λ es. IsReached Follow.Owned es starts gone) (c.as_slice.ensures.value ∙ ap (λ (g : Graph). g.edges) c.self.view_is) c.in_ok-gone.ensures in
-    let taken = subst (λ h. TakesNodes c.args.self.now h gone) (sym c.self-2.view_is) (subst (λ l. TakesNodes c.args.self.now c.remove_nodes.new.self l) c.as_slice-2.ensures.value c.remove_nodes.ensures) in
+    let reached = subst (λ es. IsReached Follow.Owned es starts gone) (ap (λ (g : Graph). g.edges) c.self.view_is) (subst (λ ss. IsReached Follow.Owned c.self.inside.edges ss c.in_ok-gone.gone) (c.in_ok-starts.ensures ∙ c.as_slice.ensures.value) c.in_ok-gone.ensures) in
+    let taken = subst (λ h. TakesNodes c.args.self.now h gone) (sym c.self-2.view_is) c.remove_nodes.ensures in
     let left = held_left c.args.self.now (graph c.self-2.inside) c.args.«package» starts gone are reached taken c.requires in
     let same = got c.self-2.inside.places.items c.args.«package».place left.2.place c.index_mut.result.now left.2.there c.index_mut.ensures.value in
     let place = ap (λ (x : Place). x.generation) (c.give_up.ensures ∙ ap left_place (ap (λ (x : Place). x.generation) same)) in
@@ -72,10 +72,10 @@ returns-clause-grow c =
 pub returns-clause-stale : goal.returns-clause-stale
 returns-clause-stale c =
     let starts = c.in_ok-instances.instances.items in
-    let gone = c.in_ok-gone.gone.items in
+    let gone = c.in_ok-gone.gone in
     let are = subst (λ (g : Graph). AreInstances g.nodes c.args.«package» starts) c.self.view_is c.in_ok-instances.ensures in
-    let reached = subst (λ es. IsReached Follow.Owned es starts gone) (c.as_slice.ensures.value ∙ ap (λ (g : Graph). g.edges) c.self.view_is) c.in_ok-gone.ensures in
-    let taken = subst (λ h. TakesNodes c.args.self.now h gone) (sym c.self-2.view_is) (subst (λ l. TakesNodes c.args.self.now c.remove_nodes.new.self l) c.as_slice-2.ensures.value c.remove_nodes.ensures) in
+    let reached = subst (λ es. IsReached Follow.Owned es starts gone) (ap (λ (g : Graph). g.edges) c.self.view_is) (subst (λ ss. IsReached Follow.Owned c.self.inside.edges ss c.in_ok-gone.gone) (c.in_ok-starts.ensures ∙ c.as_slice.ensures.value) c.in_ok-gone.ensures) in
+    let taken = subst (λ h. TakesNodes c.args.self.now h gone) (sym c.self-2.view_is) c.remove_nodes.ensures in
     let left = held_left c.args.self.now (graph c.self-2.inside) c.args.«package» starts gone are reached taken c.requires in
     let same = got c.self-2.inside.places.items c.args.«package».place left.2.place c.index_mut.result.now left.2.there c.index_mut.ensures.value in
     let place = c.give_up.ensures ∙ ap left_place (ap (λ (x : Place). x.generation) same ∙ left.2.now) in
@@ -84,10 +84,10 @@ returns-clause-stale c =
 pub returns-clause-unregistered : goal.returns-clause-unregistered
 returns-clause-unregistered c =
     let starts = c.in_ok-instances.instances.items in
-    let gone = c.in_ok-gone.gone.items in
+    let gone = c.in_ok-gone.gone in
     let are = subst (λ (g : Graph). AreInstances g.nodes c.args.«package» starts) c.self.view_is c.in_ok-instances.ensures in
-    let reached = subst (λ es. IsReached Follow.Owned es starts gone) (c.as_slice.ensures.value ∙ ap (λ (g : Graph). g.edges) c.self.view_is) c.in_ok-gone.ensures in
-    let taken = subst (λ h. TakesNodes c.args.self.now h gone) (sym c.self-2.view_is) (subst (λ l. TakesNodes c.args.self.now c.remove_nodes.new.self l) c.as_slice-2.ensures.value c.remove_nodes.ensures) in
+    let reached = subst (λ es. IsReached Follow.Owned es starts gone) (ap (λ (g : Graph). g.edges) c.self.view_is) (subst (λ ss. IsReached Follow.Owned c.self.inside.edges ss c.in_ok-gone.gone) (c.in_ok-starts.ensures ∙ c.as_slice.ensures.value) c.in_ok-gone.ensures) in
+    let taken = subst (λ h. TakesNodes c.args.self.now h gone) (sym c.self-2.view_is) c.remove_nodes.ensures in
     let left = held_left c.args.self.now (graph c.self-2.inside) c.args.«package» starts gone are reached taken c.requires in
     let same = got c.self-2.inside.places.items c.args.«package».place left.2.place c.index_mut.result.now left.2.there c.index_mut.ensures.value in
     let place = c.give_up.ensures ∙ ap left_place (ap (λ (x : Place). x.generation) same ∙ left.2.now) in

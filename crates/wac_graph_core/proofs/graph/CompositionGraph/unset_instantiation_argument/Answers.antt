@@ -1,4 +1,6 @@
-use Rattle.std.proofs.Common.{sym, subst}
+use Rattle.std.proofs.Common.{◌≢◌, sym, subst}
+use Rattle.wac_types_base.specs.Graph.{Among}
+use Rattle.wac_graph_core.specs.Edges.{AreEdges, argument_edge}
 use Rattle.std.proofs.lemmas.Result.{err_from_is_err_and}
 use Rattle.wac_graph_core.specs.Graph.{IsArgument}
 use Rattle.wac_graph_core.specs.Steps.{UnsetsArgument}
@@ -9,7 +11,7 @@ use Rattle.wac_graph_core.proofs.graph.CompositionGraph.unset_instantiation_argu
 
 pub invariant_of-self : goal.invariant_of-self
 invariant_of-self c = (
-  IsGraph-unset (graph c.self.inside) c.remove_argument.new.edges.items c.args.argument c.args.instantiation c.args.name.now c.remove_argument.ensures c.self.invariant.0,
+  IsGraph-unset (graph c.self.inside) c.remove_argument.new.self c.args.argument c.args.instantiation c.args.name.now (subst (λ n. AreEdges c.remove_argument.new.self (λ d. Among d c.self.inside.edges × (d ≢ argument_edge c.args.argument c.args.instantiation n))) c.in_ok-own.ensures.ok c.remove_argument.ensures) c.self.invariant.0,
   c.self.invariant.1,
 )
 
@@ -20,6 +22,6 @@ returns-in_err-argument_item-clause-refused c =
 
 pub returns-clause-unset : goal.returns-clause-unset
 returns-clause-unset c =
-    subst (λ g. UnsetsArgument g (record (graph c.self.inside) { edges = c.remove_argument.new.edges.items }) c.args.instantiation c.args.name.now c.args.argument) c.self.view_is
-    (unset_step (graph c.self.inside) c.remove_argument.new.edges.items c.args.argument c.args.instantiation c.args.name.now c.in_ok-argument_item.field-0 c.remove_argument.ensures
+    subst (λ g. UnsetsArgument g (record (graph c.self.inside) { edges = c.remove_argument.new.self }) c.args.instantiation c.args.name.now c.args.argument) c.self.view_is
+    (unset_step (graph c.self.inside) c.remove_argument.new.self c.args.argument c.args.instantiation c.args.name.now c.in_ok-argument_item.field-0 (subst (λ n. AreEdges c.remove_argument.new.self (λ d. Among d c.self.inside.edges × (d ≢ argument_edge c.args.argument c.args.instantiation n))) c.in_ok-own.ensures.ok c.remove_argument.ensures)
     (subst (λ g. IsArgument g c.args.instantiation c.args.name.now c.in_ok-argument_item.field-0) (sym c.self.view_is) c.in_ok-argument_item.ensures.found))

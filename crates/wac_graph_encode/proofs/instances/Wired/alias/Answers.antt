@@ -13,7 +13,8 @@ returns-clause-writes c define worlds asked h new =
 pub returns-clause-same : goal.returns-clause-same
 returns-clause-same c = record {
   graph = refl;
-  outers = refl;
+  places = refl;
+  imports = refl;
   packages = c.in_ok-place.ensures.packages;
   exported = c.in_ok-place.ensures.exported;
   nested = entry_nests_none c.args.self.now.root.entries.items c.add_alias.new.self.entries.items (Aliased (ExportAlias c.alias_of-sort.result.0 c.alias_of-sort.result.1 c.alias_of-sort.result.2.now)) refl c.in_ok-place.ensures.entry;

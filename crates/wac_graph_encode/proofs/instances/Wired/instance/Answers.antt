@@ -15,7 +15,8 @@ returns-clause-writes c k of are define worlds asked h fresh =
 pub returns-clause-same : goal.returns-clause-same
 returns-clause-same c = record {
   graph = refl;
-  outers = refl;
+  places = refl;
+  imports = refl;
   packages = c.in_ok-place.ensures.packages;
   exported = c.in_ok-place.ensures.exported;
   nested = entry_nests_none c.args.self.now.root.entries.items c.add_instance.new.self.entries.items (Instantiate c.component-component.result (arguments_view c.in_ok-arguments.arguments.items)) refl c.in_ok-place.ensures.entry;

@@ -27,7 +27,7 @@ pub returns-clause-keeps : goal.returns-clause-keeps
 returns-clause-keeps c =
     let same = c.in_ok-place.ensures.same in
     record {
-      same = record { graph = same.graph; outers = same.outers; packages = same.packages; exported = same.exported; nested = same.nested };
+      same = record { graph = same.graph; places = same.places; imports = same.imports; packages = same.packages; exported = same.exported; nested = same.nested };
       kept = λ k p m. subst (λ (xs : List (ℕ × SortIndex)). Among {R = ℕ × SortIndex} (k, p) xs) (sym (added c)) (Among-front (noted c.args.self.now) (c.args.node, c.in_ok-place.place) (k, p) m);
     }
 

@@ -10,10 +10,10 @@ index_mut-requires g c =
 
 pub invariant_of-self : goal.invariant_of-self
 invariant_of-self g c =
-    places_set c.self.inside.kept.keys c.self.inside.places.items c.args.at c.args.place c.self.invariant
+    places_set c.self.inside.kept.keys c.self.inside.places.items c.args.at c.args.to c.self.invariant
     (omega (arith, c.requires.place, ap (λ v. length v.kept) c.self.view_is))
 
 pub returns-clause-given : goal.returns-clause-given
 returns-clause-given g c x e =
-    given_set c.self.inside.kept.keys c.self.inside.places.items c.args.at c.args.place x c.self.invariant (ap (λ v. slice_get v.kept c.args.place) c.self.view_is ∙ e)
+    given_set c.self.inside.kept.keys c.self.inside.places.items c.args.at c.args.to x c.self.invariant (ap (λ v. slice_get v.kept c.args.to) c.self.view_is ∙ e)
     ∙ ap (λ v. slice_set v.given c.args.at x) c.self.view_is

@@ -1,0 +1,22 @@
+use Rattle.std.proofs.Common.{◌≡◌, ◌++◌, ◌∷◌, [], map}
+use Rattle.std.proofs.lemmas.Result.{err_from_is_err_and}
+use Rattle.std.proofs.lemmas.List.{map_push}
+use Rattle.wac_component.specs.Views.{core_type_view}
+use Rattle.wac_component.specs.Numbers.{vec}
+use Rattle.wac_component.specs.CoreTypes.{core_type}
+use Rattle.wac_component.proofs.Loops.{goes_on, ends, is_done}
+use Rattle.wac_component.proofs.core_types.read_core_types.Goals as goal
+
+pub returns-in_err-value : goal.returns-in_err-value
+returns-in_err-value c =
+    let p = err_from_is_err_and c.from_residual-in_err-value.result c.from_residual-in_err-value.ensures.1 in
+    rw (p.1, p.2) (ends core_type c.in_err-value.field-0.0 (map core_type_view c.loop.values.items) c.in_ok-count.count c.loop.counter c.loop.rest.now ((vec core_type).read c.args.bytes.now) c.loop-test.true c.in_err-value.ensures c.loop.invariant)
+
+pub loop-preserved : goal.loop-preserved
+loop-preserved c =
+    let x = c.in_ok-value.value in
+    let e : map core_type_view c.push.new.self.items ≡ map core_type_view c.loop.values.items ++ core_type_view x ∷ [] = rw c.in_ok-push.ensures.items (map_push _ c.loop.values.items x) in
+    rw e (goes_on core_type (map core_type_view c.loop.values.items) c.in_ok-count.count c.loop.counter c.loop.rest.now (core_type_view x) c.in_ok-value.after.now ((vec core_type).read c.args.bytes.now) c.loop-test.true c.in_ok-value.ensures c.loop.invariant)
+
+pub returns : goal.returns
+returns c = is_done core_type (map core_type_view c.loop.values.items) c.in_ok-count.count c.loop.counter c.loop.rest.now ((vec core_type).read c.args.bytes.now) c.loop-test.false c.loop.invariant

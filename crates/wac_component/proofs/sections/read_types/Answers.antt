@@ -1,0 +1,22 @@
+use Rattle.std.proofs.Common.{◌≡◌, ◌++◌, ◌∷◌, [], map}
+use Rattle.std.proofs.lemmas.Result.{err_from_is_err_and}
+use Rattle.std.proofs.lemmas.List.{map_push}
+use Rattle.wac_component.specs.Views.{type_view}
+use Rattle.wac_component.specs.Numbers.{vec}
+use Rattle.wac_component.specs.Declarations.{type_entry}
+use Rattle.wac_component.proofs.Loops.{goes_on, ends, is_done}
+use Rattle.wac_component.proofs.sections.read_types.Goals as goal
+
+pub returns-in_err-value : goal.returns-in_err-value
+returns-in_err-value c =
+    let p = err_from_is_err_and c.from_residual-in_err-value.result c.from_residual-in_err-value.ensures.1 in
+    rw (p.1, p.2) (ends type_entry c.in_err-value.field-0.0 (map type_view c.loop.values.items) c.in_ok-count.count c.loop.counter c.loop.rest.now ((vec type_entry).read c.args.bytes.now) c.loop-test.true c.in_err-value.ensures c.loop.invariant)
+
+pub loop-preserved : goal.loop-preserved
+loop-preserved c =
+    let x = c.in_ok-value.value in
+    let e : map type_view c.push.new.self.items ≡ map type_view c.loop.values.items ++ type_view x ∷ [] = rw c.in_ok-push.ensures.items (map_push _ c.loop.values.items x) in
+    rw e (goes_on type_entry (map type_view c.loop.values.items) c.in_ok-count.count c.loop.counter c.loop.rest.now (type_view x) c.in_ok-value.after.now ((vec type_entry).read c.args.bytes.now) c.loop-test.true c.in_ok-value.ensures c.loop.invariant)
+
+pub returns : goal.returns
+returns c = is_done type_entry (map type_view c.loop.values.items) c.in_ok-count.count c.loop.counter c.loop.rest.now ((vec type_entry).read c.args.bytes.now) c.loop-test.false c.loop.invariant

@@ -1,0 +1,13 @@
+pub mod Rules
+pub mod Reads
+pub mod Numbers
+pub mod Types
+pub mod CoreTypes
+pub mod Sorts
+pub mod Entries
+pub mod Views
+pub mod Declarations
+pub mod Instances
+pub mod Canonicals
+pub mod Sections
+pub mod Components
