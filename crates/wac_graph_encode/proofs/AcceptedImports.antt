@@ -1,7 +1,7 @@
 -- What the imports of a component type give against which no cause stands.
 use Rattle.std.proofs.Common.{◌≡◌, ◌+◌, ℕ, Bool, true, false, true≢false, List, ◌++◌, map, Option, Some, None, refl, sym, ap, ◌∙◌, subst, unwrap_or, arith}
 use Rattle.std.specs.Prelude.{option_map, if◌then◌else◌}
-use Rattle.std.proofs.lemmas.Option.{none-some, same_Some}
+use Rattle.std.proofs.lemmas.Option.{none-some}
 use Rattle.wac_types_base.specs.declared.ids.InterfaceId.{InterfaceId}
 use Rattle.wac_types_base.specs.declared.item.«Type».{«Type» as TypeKind}
 use Rattle.wac_types_base.specs.declared.item.ItemKind.{ItemKind}
@@ -12,7 +12,7 @@ use Rattle.wac_types_base.specs.Graph.{Among}
 use Rattle.wac_types_base.specs.Collection.{Stands, IsAcyclic}
 use Rattle.wac_types_base.specs.Stated.{Stated, Used, kind_of, stated_of, stated_use, uses_of, imports_of, exports_of}
 use Rattle.wac_types_base.specs.Tree.{tree}
-use Rattle.wac_types_base.proofs.Adding.{Among-left}
+use Rattle.wac_types_base.proofs.Adding.{Among-left, option_map-some}
 use Rattle.wac_types_base.proofs.Lists.{among_mapped}
 use Rattle.wac_types_base.proofs.Stating.{value_with}
 use Rattle.wac_types_base.proofs.Telling.{item_kind, kind_stated}
@@ -55,10 +55,6 @@ instance_item (ItemKind.Module r) e = absurd (true≢false (sym e))
 instance_item (ItemKind.Value r) e = absurd (true≢false (sym e))
 
 -- a value under a name, before it was stated
-pub unstated : {X Y : Type 0} (f : X → Y) (o : Option X) (y : Y) → option_map f o ≡ Some y → (x : X) × (o ≡ Some x) × (y ≡ f x)
-unstated f None y e = absurd (none-some _ e)
-unstated f (Some x) y e = (x, refl, sym (same_Some _ _ e))
-
 module _ (c : Collection) (a : IsAcyclic c) where
   -- ---- what is needed
 
@@ -111,7 +107,7 @@ module _ (a : Importing) (acyclic : IsAcyclic a.types.now) (distinct : AreDistin
     given_by l e y has same =
         let p = slice_get-Among is (i, ItemKind.Instance l) (value_at-among is i (ItemKind.Instance l) e) in
         let zero : 0 + p.0 ≡ p.0 = omega arith in
-        let x = unstated (stated_of c) (value_at (exports_in c l) (unwrap_or u.1.name u.0)) y (sym (stated_item c acyclic l u) ∙ has) in (
+        let x = option_map-some (stated_of c) (value_at (exports_in c l) (unwrap_or u.1.name u.0)) y (sym (stated_item c acyclic l u) ∙ has) in (
           p.0,
           finds i ∙ place_here is 0 p.0 i (ItemKind.Instance l) distinct p.2 ∙ ap Some zero,
           record { interface = l; import_is = (i, p.2); export_is = (x.0, x.1, sym (tree_is c acyclic item) ∙ same ∙ ap tree x.2 ∙ tree_is c acyclic x.0) },
@@ -126,7 +122,7 @@ module _ (a : Importing) (acyclic : IsAcyclic a.types.now) (distinct : AreDistin
 
     from_imported : IsImported (imports_of whole) i (stated_use c u) → Gives i u item
     from_imported h =
-        let there = unstated (stated_of c) (value_at is i) h.interface (sym (value_with (stated_of c) is i) ∙ ap (λ l. value_at l i) (sym are) ∙ h.there) in
+        let there = option_map-some (stated_of c) (value_at is i) h.interface (sym (value_with (stated_of c) is i) ∙ ap (λ l. value_at l i) (sym are) ∙ h.there) in
         let has = h.item (stated_of c item) (stated_item c acyclic u.1.interface u ∙ ap (option_map (stated_of c)) (used_from (value_at (exports_in c u.1.interface) (unwrap_or u.1.name u.0)) item taken)) in
         by_kind there.0 there.1 h.interface there.2 (is_instance_kind (kind_of h.interface)) refl has.0 has.1 has.2
 

@@ -31,6 +31,7 @@ use Rattle.wac_graph_scopes.specs.Behind.{needs_at, places_in_order}
 use Rattle.wac_graph_scopes.specs.Orders.{IsSource}
 use Rattle.wac_graph_scopes.specs.Imports.{all_imports, own_places}
 use Rattle.wac_graph_scopes.specs.UsePlaces.{place_of, UsePlaces, nothing, other_item, interface_item, AllUses, IsSourceAt, SourcesBehind, ComesBefore}
+use Rattle.wac_graph_asks.proofs.Origins.{among_mapped}
 use Rattle.wac_graph_causes.specs.Orders.{interfaces_used, used_in_items}
 use Rattle.wac_graph_causes.specs.Late.{is_interface_item, interface_items}
 use Rattle.wac_graph_causes.proofs.UsedInside.{nothing_used, item_uses}
@@ -62,15 +63,6 @@ filtered_twice {X} {Y} {Z} f g (x ∷ xs) = go (g x) (filtered_twice f g xs)
     go : (o : Option Y) → filter_map f (filter_map g xs) ≡ filter_map (λ x. option_and_then f (g x)) xs → filter_map f (cons_option o (filter_map g xs)) ≡ cons_option (option_and_then f o) (filter_map (λ x. option_and_then f (g x)) xs)
     go None e = e
     go (Some y) e = ap (cons_option (f y)) e
-
-pub among_given : {X Y : Type 0} (f : X → Option Y) (xs : List X) (x : X) (y : Y) → Among x xs → f x ≡ Some y → Among y (filter_map f xs)
-among_given f [] x y m e = absurd m
-among_given {X} {Y} f (z ∷ zs) x y (inl s) e = subst (λ o. Among y (cons_option o (filter_map f zs))) (sym e ∙ ap f s) (inl refl)
-among_given {X} {Y} f (z ∷ zs) x y (inr m) e = go (f z) (among_given f zs x y m e)
-  where
-    go : (o : Option Y) → Among y (filter_map f zs) → Among y (cons_option o (filter_map f zs))
-    go None n = n
-    go (Some w) n = inr n
 
 -- ---- what an item uses, by places
 
@@ -360,7 +352,7 @@ module _ (a : Importing) (acyclic : IsAcyclic a.types.now) (distinct : AreDistin
             subst (λ j. Among j parts.before) (same_place f.0 m p f.2 e) f.1
 
         none : Among at parts.before → ⊥
-        none i = turn.first (among_filtered (is_source_name is) standing n (subst (Among n) parts.front (among_given (source_at is) parts.before at n i here))).0
+        none i = turn.first (among_filtered (is_source_name is) standing n (subst (Among n) parts.front (among_mapped (source_at is) parts.before at n i here))).0
 
   -- the name of the source that is found
   named_found : (i : Name) (m : ℕ) → value_at found i ≡ Some m → IsSourceAt a m → source_at is m ≡ Some (spell i)
@@ -383,7 +375,7 @@ module _ (a : Importing) (acyclic : IsAcyclic a.types.now) (distinct : AreDistin
           uses = needs_at uses at;
           are = λ l j q. needs_there c acyclic is distinct stand spell found finds uses all at l j q;
           among = subst (Among m) (sym (one_place c acyclic found k (needs_at uses at) there))
-              (among_given (λ x. option_and_then (value_at found) (identifier_of x)) (used_inside (stated_of c k)) used.0 m used.1 (ap (option_and_then (value_at found)) used.2 ∙ f));
+              (among_mapped (λ x. option_and_then (value_at found) (identifier_of x)) (used_inside (stated_of c k)) used.0 m used.1 (ap (option_and_then (value_at found)) used.2 ∙ f));
         })
 
 pub standing_before : Standing_is_before

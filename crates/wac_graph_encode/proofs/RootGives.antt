@@ -13,6 +13,7 @@ use Rattle.wac_types_base.specs.Collection.{Stands, IsAcyclic}
 use Rattle.wac_types_base.specs.Stated.{Stated, stated_of, identifier_of}
 use Rattle.wac_types_base.specs.Tree.{tree}
 use Rattle.wac_types_base.specs.Fits.{Fits}
+use Rattle.wac_types_base.proofs.Adding.{option_map-some}
 use Rattle.wac_types_base.proofs.Stating.{value_with}
 use Rattle.wac_types_base.proofs.Walking.{slice_get-Among}
 use Rattle.wac_types_fit.specs.Checking.{IsFlat}
@@ -35,7 +36,7 @@ use Rattle.wac_graph_scopes.specs.Prepared.{IsWithin, taken_by}
 use Rattle.wac_graph_asks.specs.Outers.{AreOuters}
 use Rattle.wac_graph_causes.proofs.UsedInside.{same_inside}
 use Rattle.wac_graph_encode.specs.RefusedImports.{Outer_imports_give}
-use Rattle.wac_graph_encode.proofs.AcceptedImports.{instance_item, unstated}
+use Rattle.wac_graph_encode.proofs.AcceptedImports.{instance_item}
 use Rattle.wac_graph_encode.proofs.Exported.{imports_stand}
 use Rattle.wac_graph_encode.proofs.FittingGives.{used_flat, with_item_stands, type_given}
 use Rattle.wac_graph_encode.proofs.ImportPlaces.{place_here}
@@ -124,7 +125,7 @@ module _ (k : Composition ℕ ℕ) (c : Collection) (acyclic : IsAcyclic c) (wor
 
   outer_gives : (i : Name) (j : InterfaceId) (x : Stated) → value_at (outer_imports asks) (spelling asks i) ≡ Some x → Fits (tree x) (tree (stated_of c (ItemKind.Instance j)))
       → (n : Name) (item : ItemKind) → used_if (value_at (exports_of c j) n) ≡ Some item → Gives i n item
-  outer_gives i j x there fits n item taken = at (unstated (stated_of c) (value_at is (spelling asks i)) x (sym (outer_at (spelling asks i) ∙ value_with (stated_of c) is (spelling asks i)) ∙ there))
+  outer_gives i j x there fits n item taken = at (option_map-some (stated_of c) (value_at is (spelling asks i)) x (sym (outer_at (spelling asks i) ∙ value_with (stated_of c) is (spelling asks i)) ∙ there))
     where
       at : (z : ItemKind) × (value_at is (spelling asks i) ≡ Some z) × (x ≡ stated_of c z) → Gives i n item
       at (z, e, same) =

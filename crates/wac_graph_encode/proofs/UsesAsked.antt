@@ -13,7 +13,7 @@ use Rattle.wac_composition.specs.Asks.{Ask, ToUse, used_by, used_by_kind, used_b
 use Rattle.wac_composition.specs.Circles.{used_inside}
 use Rattle.wac_composition.specs.Writable.{has_items}
 use Rattle.wac_composition.proofs.Lists.{mapped_among, among_flat, flat_among}
-use Rattle.wac_graph_encode.proofs.PlainOrders.{among_given}
+use Rattle.wac_graph_asks.proofs.Origins.{among_mapped}
 use Rattle.wac_graph_encode.proofs.UsedParts.{by_places, use_in_place, item_in_place, with_used, used_by_item, used_in_item, used_of, inside_is, used_is, none_used}
 
 -- ---- all that is used is closed
@@ -83,7 +83,7 @@ module _ {A I : Type 0} (c : Composition A I) where
   asked_among : (by : A) (xs : List Stated) (y : Stated) (i : Name) → Among y xs → identifier_of y ≡ Some i → IsAsked (asked_for by xs) i y
   asked_among by xs y i m e = (
     record { asking = ToUse; by = by; name = i; item = y },
-    among_given (to_use by) xs y (record { asking = ToUse; by = by; name = i; item = y }) m (ap (option_map (λ n. record { asking = ToUse; by = by; name = n; item = y })) e),
+    among_mapped (to_use by) xs y (record { asking = ToUse; by = by; name = i; item = y }) m (ap (option_map (λ n. record { asking = ToUse; by = by; name = n; item = y })) e),
     refl,
     refl,
   )
