@@ -1,6 +1,8 @@
-//! A reader of components as tools make them: the sections of one level.
+//! A reader of components as tools make them: the sections of one level, and the world of a component.
 #![tactic(auto)]
 
+mod additions;
+mod builder;
 mod canonicals;
 mod component;
 mod core_types;
@@ -11,7 +13,11 @@ mod instances;
 mod numbers;
 mod sections;
 mod sorts;
+mod spaces;
+mod type_scopes;
 mod types;
+mod world;
+mod world_fault;
 
 pub use component::read_component;
 pub use entry::{
@@ -19,6 +25,5 @@ pub use entry::{
     Export, Import, Instance, Item, Section, Sort, TypeEntry,
 };
 pub use fault::{FaultKind, ReadError};
-
-#[cfg(test)]
-mod tests;
+pub use world::read_world;
+pub use world_fault::{WorldError, WorldFault};

@@ -1,8 +1,8 @@
 //! Bytes that other tools made, and broken ones.
 
-use super::*;
 use std::alloc::{AllocError, Global};
 use std::test::Fail;
+use wac_component::*;
 
 /// A component that a validator takes: interfaces with resources, uses and each kind of type, core modules, canonical
 /// functions, a nested component.
